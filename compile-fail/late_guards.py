@@ -13,7 +13,7 @@ sys.dont_write_bytecode = True
 
 from programs import shown
 
-NAME, BELOW = "late_guards", "seize_collector seize_desks seize_shared seize_blocks seize"
+NAME, BELOW = "late_guards", "seize_collector seize_guards seize_shared seize_blocks seize"
 HEAD = """//! Guards that are used as they may be used, and as they may not.
 #![tactic(auto)]
 ghost use Rattle.std.specs.Prelude.{None, false};
@@ -21,7 +21,7 @@ ghost use Rattle.std.specs.Prelude.{None, false};
 use seize::rows::{Defers, LeftOver};
 use seize_blocks::Home;
 use seize_collector::Collector;
-use seize_desks::{Desk, DeskGuard, Place};
+use seize_guards::{Desk, DeskGuard, Place};
 use seize_shared::{
     Caller, Fixed, Guard, LocalGuard, OfRows, Owned, OwnedGuard, Pass, Registration, RootGuard, Shared, Unlinked,
 };

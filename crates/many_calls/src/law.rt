@@ -16,9 +16,9 @@ ghost use Rattle.map_facts_late.specs.Given.TablesDeclared.setting.Setting.{Sett
 /// very pair that it has found, or that there is none, it was told to leave, where a call of its kind asks there; where it does not, it was told nothing. Each
 /// answer is one of the call's kind, and so is each refusal: one to remove what is not there comes where the call was told last to remove that, and the map had
 /// none of its keys at a moment since it began. A refused call has changed nothing. What a call hands back, which it has not stored, is the pair that it was
-/// begun with, if with one. In blocking mode a call may go on in a table that the root has left since it began, and at most 2^32 calls are under way at a time.
-/// What a row gives back was in a block that no open section held. Who has no call may register, enter, leave, refresh, flush and give up a slot, but for
-/// ending a section in which a call is under way.
+/// begun with, if with one. In blocking mode a call may go on in a table that the root has left since it began, and at most 2^32 calls that may write are
+/// under way at a time: lookups and countings are not counted. What a row gives back was in a block that no open section held. Who has no call may register,
+/// enter, leave, refresh, flush and give up a slot, but for ending a section in which a call is under way.
 pub fn calls_stand_together<K, V, Q>()
     ensures starts { (same : K → K → Bool) (hash : K → ℕ) (asks : Q → K → Bool) (setting : Setting) (slot : ℕ → ℕ) → MapBeginsTogether V same hash asks setting slot }
     ensures begins { (same : K → K → Bool) (hash : K → ℕ) (asks : Q → K → Bool) (setting : Setting) (slot : ℕ → ℕ) → BeginsTogether V same hash asks setting slot }

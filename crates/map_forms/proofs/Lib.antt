@@ -4,3 +4,5 @@ pub mod Items
 pub mod Readings
 pub mod OneArray
 mod Narrow
+pub mod Told
+mod Read

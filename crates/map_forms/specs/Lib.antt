@@ -5,3 +5,5 @@ pub mod Objects
 pub mod Arrays
 pub mod ArrayLaws
 pub mod Texts
+pub mod Growing
+pub mod Reading

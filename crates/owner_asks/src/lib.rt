@@ -4,7 +4,6 @@
 mod asking;
 mod computing;
 pub mod law;
-mod lent;
 mod removals_by_test;
 mod updates;
 

@@ -10,8 +10,7 @@ ghost use Rattle.owner_calls.specs.Owned.Calling.{HasStopped, stop_by};
 ghost use Rattle.owner_calls.specs.Owned.Owned.{Holds, EndsBy, found_by, hashed_by};
 
 use crate::asking::{finish, start};
-use crate::lent::Lent;
-use map_tables::{Equivalent, Hashes, Node, Setting};
+use map_tables::{Equivalent, Hashes, Lent, Node, Setting};
 use owner_calls::{OnKey, Stop, pair_at, run_removal};
 use papaya_raw::machines::{KeyAnswer, KeyCall, MachineReply};
 use seize_words::{Fault, Plain};

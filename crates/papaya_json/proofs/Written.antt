@@ -13,8 +13,8 @@ use Rattle.serde_json.specs.declared.value.Value.{Value}
 use Rattle.map_forms.specs.Arrays.{IsArrayOf}
 use Rattle.map_forms.specs.Objects.{members_with}
 use Rattle.map_forms.proofs.Items.{none_yet, written_of}
-use Rattle.map_json.specs.Growing.{HasItems, PutsItem, PutsMember}
-use Rattle.map_json.proofs.Told.{all_items, all_written}
+use Rattle.map_forms.specs.Growing.{HasItems, PutsItem, PutsMember}
+use Rattle.map_forms.proofs.Told.{all_items, all_written}
 use Rattle.papaya_json.specs.Json.{AreWrittenAs, IsFilledBy, IsFilledWith, IsWrittenAs, WasNotWritten}
 use Rattle.papaya.specs.Given.CallersDeclared.caller.MapCaller.{MapCaller}
 use Rattle.papaya.specs.Given.Onlookers.{HasBeenShown}

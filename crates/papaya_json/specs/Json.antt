@@ -9,7 +9,7 @@ use Rattle.map_forms.specs.Arrays.{AreItemsOf, FirstBad, IsArrayOf}
 use Rattle.map_forms.specs.Objects.{FirstFault, members_with}
 use Rattle.map_forms.specs.declared.fault.JsonFault.{JsonFault}
 use Rattle.map_forms.specs.declared.fault.JsonFault.TheVariants.{NotAnArray, NotAnObject}
-use Rattle.map_json.specs.Reading.{AreMembersOf, IsRefused}
+use Rattle.map_forms.specs.Reading.{AreMembersOf, IsRefused}
 use Rattle.papaya.specs.OneSet.{PutsKey}
 use Rattle.papaya.specs.Given.CallersDeclared.caller.MapCaller.{MapCaller}
 use Rattle.papaya.specs.Given.Onlookers.{HasTold}

@@ -1,8 +1,8 @@
 //! JSON of a map that threads share: a session writes the object of the pairs that a walk has told, and a map is read of one.
 ghost use Rattle.std.specs.Prelude.{◌≡◌, ◌⊎◌, Ok, IfErr, IfOk, OnOk};
 ghost use Rattle.map_forms.specs.Objects.{FirstFault};
-ghost use Rattle.map_json.specs.Growing.{PutsMember};
-ghost use Rattle.map_json.specs.Reading.{IsRefused};
+ghost use Rattle.map_forms.specs.Growing.{PutsMember};
+ghost use Rattle.map_forms.specs.Reading.{IsRefused};
 ghost use Rattle.map_tables.specs.declared.resize_mode.ResizeMode.TheVariants.{Incremental};
 ghost use Rattle.owner_calls.specs.Owned.Owned.{hashed_by};
 ghost use Rattle.papaya_json.specs.Json.{HasFault, IsFilledBy, IsNoObject, IsWrittenAs, WasNotWritten};
@@ -14,7 +14,7 @@ ghost use Rattle.serde_json.specs.View.{members_view, view};
 
 use crate::forms::{FromJson, ToJson};
 use map_forms::{JsonFault, JsonForm, JsonKey};
-use map_json::{Members, Puts, put_members};
+use map_forms::{Members, Puts, put_members};
 use map_tables::Hashes;
 use papaya::{HashMap, IdSource, Onlooker, Session};
 use seize_words::Fault;

@@ -1,8 +1,8 @@
 //! JSON of a set that threads share: a session writes the array of the elements that a walk has told, in the order of their texts, and a set is read of one in whatever order.
 ghost use Rattle.std.specs.Prelude.{◌≡◌, ◌⊎◌, Ok, IfErr, IfOk, OnOk};
 ghost use Rattle.map_forms.specs.Arrays.{FirstBad};
-ghost use Rattle.map_json.specs.Growing.{PutsItem};
-ghost use Rattle.map_json.specs.Reading.{IsRefused};
+ghost use Rattle.map_forms.specs.Growing.{PutsItem};
+ghost use Rattle.map_forms.specs.Reading.{IsRefused};
 ghost use Rattle.map_tables.specs.declared.resize_mode.ResizeMode.TheVariants.{Incremental};
 ghost use Rattle.owner_calls.specs.Owned.Owned.{hashed_by};
 ghost use Rattle.papaya_json.specs.Json.{AreWrittenAs, HasBadItem, IsFilledWith, IsNoArray, WasNotWritten};
@@ -14,7 +14,7 @@ ghost use Rattle.serde_json.specs.View.{items_view, view};
 
 use crate::forms::{FromJson, ToJson};
 use map_forms::{JsonFault, JsonForm};
-use map_json::{Items, Puts, put_items};
+use map_forms::{Items, Puts, put_items};
 use map_tables::Hashes;
 use papaya::{HashSet, IdSource, Onlooker, SetSession};
 use seize_words::Fault;

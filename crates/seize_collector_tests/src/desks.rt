@@ -4,7 +4,7 @@ ghost use Rattle.std.specs.Prelude.{◌≡◌, IfSome};
 use crate::ground::CHOSEN;
 use seize::Fault;
 use seize_blocks::{Blocks, Home};
-use seize_desks::{Desk, DeskGuard, MOST_GUARDS, Place};
+use seize_guards::{Desk, DeskGuard, MOST_GUARDS, Place};
 use seize_shared::{OfRows, Owned, Registration, RootGuard, Unlinked};
 use seize_shared_tests::{Counted, DropCounts, dropped, table};
 use std::alloc::{AllocError, Global};

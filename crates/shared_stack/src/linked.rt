@@ -4,7 +4,7 @@ ghost use Rattle.std.specs.Prelude.{◌≡◌, None};
 
 use seize::rows::Defers;
 use seize_blocks::{Blocks, Home};
-use seize_chains::{ChainGuard, Joined, Unstacked};
+use seize_guards::{ChainGuard, Joined, Unstacked};
 use seize_shared::{Fixed, OfRows, Registration, Tagged};
 use std::alloc::{AllocError, Global};
 use std::sync::Arc;

@@ -1,5 +1,5 @@
 -- A call that stores a pair by straight code: what its block and the storing of that come to, and that it has been run then.
-use Rattle.std.specs.Prelude.{Option, Some, None, Result, Ok, Err}
+use Rattle.std.specs.Prelude.{Option, None, Result, Ok, Err}
 use Rattle.std.proofs.Common.{◌≡◌, ℕ, Bool, refl, ◌∙◌}
 use Rattle.seize_words.specs.OneMemory.Op.{Make, Made}
 use Rattle.map_tables.specs.declared.node.Node.{Node}

@@ -1,6 +1,6 @@
 -- A call that is run on until it asks or has ended, and the steps that its seat has taken by then.
 use Rattle.std.specs.Prelude.{zero, suc, Option, Some, None, Result, Ok, Err}
-use Rattle.std.specs.Fn.{Shared, FnReturns}
+use Rattle.std.specs.Fn.{Shared}
 use denote.Ref.{Bor}
 use Rattle.std.proofs.Common.{◌≡◌, ◌⊎◌, ℕ, Bool, true, false, List, inl, inr, refl, sym, subst, ap, ◌∙◌}
 use Rattle.seize_words.specs.OneMemory.Word.{block_in}

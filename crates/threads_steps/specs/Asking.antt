@@ -24,11 +24,10 @@ use Rattle.papaya_raw.specs.declared.machines.progress.Progress.{Progress}
 use Rattle.papaya_raw.specs.declared.machines.progress.Progress.TheVariants as progress
 use Rattle.threads_rule.specs.Views.Begun.{replied}
 use Rattle.threads_rule.specs.Views.Looks.{shown_in}
-use Rattle.threads_rule.specs.declared.view.Map.{Map}
 use Rattle.threads_rule.specs.declared.view.View.{View}
 use Rattle.threads_rule.specs.declared.view.SeatWork.TheVariants.{Nothing, Calls}
 use Rattle.threads_rule.specs.Errands.Calling.{HasEnded, IsAsking, outcome_of}
-use Rattle.threads_rule.specs.CallKinds.Kinds.{Kind, Stage, IsFit}
+use Rattle.threads_rule.specs.CallKinds.Kinds.{Kind, Stage}
 use Rattle.threads_rule.specs.CallKinds.Shows.{AnsweredAreVisible}
 use Rattle.threads_rule.specs.Errands.Looking.{Begins, HasRun, StaysThere}
 use Rattle.threads_steps.specs.Steps.{HasStepped}

@@ -1,16 +1,13 @@
 -- A choice of a number comes: all stand together as they did, and what ended maps have left is where it was.
-use Rattle.std.specs.Prelude.{◌≡◌, ◌⊎◌, ℕ, Bool, List, [], ◌∷◌, Option}
+use Rattle.std.specs.Prelude.{◌≡◌, ◌⊎◌, ℕ, Bool, List, [], ◌∷◌}
 use Rattle.std.proofs.Common.{inl, inr, refl}
 use Rattle.run_shows.specs.Given.SeizeWorld.{World}
 use Rattle.run_shows.specs.Given.TablesDeclared.node.Node.{Node}
-use Rattle.owner_facts.specs.Given.FinishesEndings.{Finishing}
-use Rattle.owner_facts.specs.Given.FinishesMakings.{Beginning}
-use Rattle.owner_facts.specs.Given.FinishesMaps.{Standing}
 use Rattle.owner_facts.proofs.Given.FinishesAmong.Choices.{choices_stand_among}
 use Rattle.run_shows.specs.Reclaims.Left.{IsSomebodys}
 use Rattle.run_shows.specs.Reclaims.Reclaims.{RootLeads}
 use Rattle.run_shows.specs.Given.SeizeFurther.{ListFrom}
-use Rattle.many_acts.specs.Acts.Doings.{IsLeft, memory_chosen, scene_chosen}
+use Rattle.many_acts.specs.Acts.Doings.{IsLeft, scene_chosen}
 use Rattle.many_acts.specs.Acts.Leads.{AllStand}
 use Rattle.run_shows.specs.Scenes.Scene.{Scene}
 

@@ -24,7 +24,7 @@ use Rattle.owner_calls.specs.Given.CallersPairs.{IsTold}
 use Rattle.owner_calls.specs.Given.CallersTogether.{IsBegun}
 use Rattle.owner_calls.specs.Given.LateFaults.{IsRoom}
 use Rattle.owner_calls.specs.Given.ShownChain.{CannotGrowIn}
-use Rattle.owner_asks.specs.declared.lent.Lent.{Lent}
+use Rattle.map_tables.specs.declared.lent.Lent.{Lent}
 use Rattle.owner_calls.specs.Given.StridesEnding.{RunsTo}
 use Rattle.owner_calls.specs.Owned.Machines.{on_key_plan}
 use Rattle.owner_calls.specs.Owned.Owned.{Holds, IsPairAt, IsWordOf, found_by, left_by}

@@ -19,7 +19,7 @@ use Rattle.seize.specs.Settle.{settle_plan, plan_at, counts}
 use Rattle.seize.specs.World.{World, Row, Rests, Handed, Retire, at_start}
 use Rattle.seize_acts.specs.Acts.Acts.{Begin, Step, Operate, Links, Unlinks}
 use Rattle.seize_acts.proofs.Samples.Acts.Base.{plain, or_start, after, on, enters, links, settle_by}
-use Rattle.seize_views.specs.Reaches.Reached.{words_of_row, IsWordIn, LeadsBy, LeadsTo, OneLeadsTo, IsOfASlot, IsOfARow, IsOfABlock}
+use Rattle.seize_views.specs.Reaches.Reached.{words_of_row, IsWordIn, LeadsBy, OneLeadsTo, IsOfASlot, IsOfARow, IsOfABlock}
 use Rattle.seize_words.proofs.General.{both_true as both, same_some}
 
 -- words that name such blocks alone

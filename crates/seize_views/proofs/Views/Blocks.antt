@@ -17,7 +17,7 @@ use Rattle.seize_acts.specs.Given.SeizeAloneAlone.{IsOfUsers}
 use Rattle.seize_acts.proofs.Given.SeizeAloneHistories.Reached.{Reached}
 use Rattle.seize_acts.proofs.Given.SeizeAloneHistories.NotTaken.{IsHad, IsHeld, kept_there}
 use Rattle.seize_seats.specs.Seats.State.{State, view_of}
-use Rattle.seize_views.specs.Views.Chains.{IsChainRoot, Chain}
+use Rattle.seize_views.specs.Views.Chains.{IsChainRoot}
 use Rattle.seize_views.specs.Views.Rows.{Leads, had_in, hand_of, IsMade, IsInHand, Holds}
 use Rattle.seize_views.specs.Views.Told.{alone_with, told}
 use Rattle.seize_views.specs.Views.Promises.{Names, BlocksAreMade, MadeAreTaken, OwnAreMade, OwnAreTaken, OwnAreRewritten, OwnAreShown, BorneAreShown, KnownAreShown}

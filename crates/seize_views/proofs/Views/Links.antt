@@ -1,9 +1,9 @@
 -- The link of a block is as it was where another block is made, taken away, given another value, or given another link.
 use Rattle.std.specs.Prelude.{◌≢◌, ◌<◌, ◌==◌, ◌&&◌, Option, Some, None, IsSome, Ok, slice_get, replicate, if◌then◌else◌}
-use Rattle.std.proofs.Common.{◌≡◌, ℕ, zero, suc, Bool, refl, sym, subst, ap, ◌∙◌, arith}
+use Rattle.std.proofs.Common.{◌≡◌, ℕ, zero, suc, Bool, refl, ap, ◌∙◌, arith}
 use Rattle.std.proofs.lemmas.Bool.{eq-eqb, ne_eqb}
 use Rattle.seize_words.specs.OneMemory.Mem.{Mem, block_of, word_in, value_at, word_at, with_word, with_block, fresh, IsFreeNumber, after}
-use Rattle.seize_words.specs.OneMemory.Op.{Make, Take, Rewrite, Store, Made, Taken, Stored}
+use Rattle.seize_words.specs.OneMemory.Op.{Make, Rewrite, Made, Taken}
 use Rattle.seize_words.specs.declared.at.At.TheVariants.{Word}
 use Rattle.seize_words.specs.declared.block.Block.{Block}
 use Rattle.seize_words.proofs.OneMemory.OneOwner.AfterWrites.{block_of-made, block_of-with_block, word_at-with_value, word_at-with_word}

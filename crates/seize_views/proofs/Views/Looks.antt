@@ -13,7 +13,7 @@ use Rattle.seize.specs.declared.rows.settle.Settling.{Settling}
 use Rattle.seize.specs.declared.rows.settle.Settling.TheVariants as at
 use Rattle.seize.specs.declared.rows.settle.Settled.{Settled}
 use Rattle.seize.specs.Settle as settle
-use Rattle.seize.specs.Settle.{settle_plan, plan_at, standing, drained_first}
+use Rattle.seize.specs.Settle.{plan_at, drained_first}
 use Rattle.seize.specs.World.{World}
 use Rattle.seize_seats.specs.Seats.State.{State, view_of}
 use Rattle.seize_seats.specs.Seats.Lendings.{VisibleTo}

@@ -12,7 +12,7 @@ use Rattle.seize.specs.declared.rows.register.Register.{Register}
 use Rattle.seize.specs.declared.rows.register.Registering.{Registering}
 use Rattle.seize.specs.declared.rows.register.Registering.TheVariants as at
 use Rattle.seize.specs.Register.{register_plan, plan_at, begun, looked, widened, taken, further, taking, going, refused, registered, can_be_taken, bucket_needed}
-use Rattle.seize.specs.World.{World, Row, Use, Vacant, registers_on, registered_use, registered_as, register_effects, after_step, at_start}
+use Rattle.seize.specs.World.{World, Row, Use, Vacant, registers_on, registered_use, registered_as}
 use Rattle.seize.specs.World as world
 use Rattle.seize_acts.proofs.Given.SeizeEndsBatches.Rows.{registers_memory}
 use Rattle.seize_acts.proofs.Given.SeizeMemoryWords.Named.{word_found}

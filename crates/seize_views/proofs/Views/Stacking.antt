@@ -1,5 +1,5 @@
 -- A block is made for a chain, and put at its root, above the block that its link names.
-use Rattle.std.specs.Prelude.{◌≢◌, ◌<◌, ◌^◌, ◌==◌, Option, Some, None, IsSome, Ok, Err, length, slice_get, if◌then◌else◌}
+use Rattle.std.specs.Prelude.{◌≢◌, ◌<◌, ◌==◌, Option, Some, None, IsSome, Ok, Err, length, slice_get, if◌then◌else◌}
 use Rattle.std.proofs.Common.{◌≡◌, ℕ, zero, suc, ◌+◌, List, [], ◌∷◌, Bool, true, false, cond, ◌⊎◌, inl, inr, refl, sym, subst, ap, ◌∙◌, arith}
 use Rattle.std.proofs.lemmas.Bool.{cases_eq, ne_eqb}
 use Rattle.seize_words.specs.OneMemory.Mem.{Mem, Took, value_at, word_at}
@@ -14,7 +14,7 @@ use Rattle.seize_acts.proofs.Given.SeizeRuleRows.Others.{with_here, with_other}
 use Rattle.seize_acts.proofs.Given.SeizeRuleWorld.Values.{own_op_value}
 use Rattle.seize_acts.proofs.Given.SeizeAloneHistories.Reached.{Reached}
 use Rattle.seize_seats.specs.Seats.State.{State, view_of}
-use Rattle.seize_views.specs.Views.Chains.{all_roots, IsChainRoot, LinksTo, HasLink, StandBelow, Chain}
+use Rattle.seize_views.specs.Views.Chains.{IsChainRoot, LinksTo, HasLink, Chain}
 use Rattle.seize_views.specs.Views.Rows.{Leads, IsMade, RootsNameLinked, Holds}
 use Rattle.seize_views.specs.Views.Stacking.{JoiningAreMade, LinksAreWritten, JoiningAreTaken, JoiningArePut, JoiningAreShown}
 use Rattle.seize_views.specs.Views.Told.{told}
@@ -25,13 +25,13 @@ use Rattle.seize_views.specs.declared.view.Has.TheVariants.{Nothing, Made}
 use Rattle.seize_views.specs.declared.view.Fixed.{Fixed}
 use Rattle.seize_views.proofs.Views.Blocks.{makes_with, takes_with, shown, root_words, apart_from}
 use Rattle.seize_views.proofs.Views.Came.{reached, since_one, since_then}
-use Rattle.seize_views.proofs.Views.Chains.{same_blocks, links_once, has_link_kept, stand_kept, chain_kept, linked_beside, linked_back, here_once, apart_times}
-use Rattle.seize_views.proofs.Views.Found.{HasNow, AreFound, found_on}
+use Rattle.seize_views.proofs.Views.Chains.{same_blocks, has_link_kept, stand_kept, chain_kept, linked_beside, linked_back, here_once, apart_times}
+use Rattle.seize_views.proofs.Views.Found.{found_on}
 use Rattle.seize_views.proofs.Views.Lists.{elsewhere}
 use Rattle.seize_views.proofs.Views.Links.{made_link, stored_beside, stored_link}
 use Rattle.seize_views.proofs.Views.Moved.{LinksStay, chains_stay, making_not_held}
 use Rattle.seize_views.proofs.Views.Steps.{roots_kept, world_roots, world_rooted}
-use Rattle.seize_views.proofs.Views.Users.{use_making, same_use, beside, world_took, passes_one, passes_then, Users, users_on}
+use Rattle.seize_views.proofs.Views.Users.{use_making, same_use, beside, world_took, passes_one, passes_then, users_on}
 use Rattle.seize_views.proofs.Views.Written.{Wrote, wrote, rooted_still, roots_now, written, links_stay, any_root_can, FoundIn, found_but}
 use Rattle.seize_words.proofs.General.{same_some}
 

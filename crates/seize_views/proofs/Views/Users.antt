@@ -1,18 +1,13 @@
 -- What a seat does within its section that is no step of a row, and that it goes on from there.
 use Rattle.std.specs.Prelude.{◌++◌, Option, Some, None, IsSome, length}
-use Rattle.std.proofs.Common.{◌≡◌, ℕ, ◌+◌, List, [], ◌∷◌, true, false, refl, sym, subst, ap, ◌∙◌}
+use Rattle.std.proofs.Common.{◌≡◌, ℕ, ◌+◌, [], ◌∷◌, true, false, refl, sym, subst, ap, ◌∙◌}
 use Rattle.seize_words.specs.OneMemory.Mem.{Mem, Took, value_at}
 use Rattle.seize_words.specs.OneMemory.Op.{Op, Out}
-use Rattle.seize.specs.declared.states.TheConstants.{LAST_SLOT}
-use Rattle.seize.specs.Law.{Effect, holds, is_over}
+use Rattle.seize.specs.Law.{holds, is_over}
 use Rattle.seize.specs.Sequence.{IsBetween}
 use Rattle.seize.specs.World.{World, Row, Use, Hand, Event, Happens, with_at}
 use Rattle.seize.specs.World as world
-use Rattle.seize_acts.proofs.Given.SeizeMovesState.Ghost.{IsOwned}
-use Rattle.seize_acts.proofs.Given.SeizeMovesMoves.Blocks.{never_held}
-use Rattle.seize_acts.proofs.Given.SeizeRulePoints.Aside.{HandFits}
 use Rattle.seize_acts.proofs.Given.SeizeRuleRows.Others.{with_other, users_rows}
-use Rattle.seize_acts.proofs.Given.SeizeAloneHistories.Reached.{Reached}
 use Rattle.seize_seats.specs.Seats.State.{State, view_of}
 use Rattle.seize_acts.specs.Bounds.Bounds.{IsOfOthers, IsAloneOnSlot}
 use Rattle.seize_views.specs.Views.Chains.{all_roots, IsChainRoot, HasLink, Chain}

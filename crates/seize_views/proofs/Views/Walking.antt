@@ -2,18 +2,17 @@
 use Rattle.std.specs.Prelude.{◌≢◌, ◌<◌, ◌==◌, Option, Some, None, IsSome, Ok, Err, slice_get, if◌then◌else◌}
 use Rattle.std.proofs.Common.{◌≡◌, ℕ, zero, suc, ◌+◌, List, [], ◌∷◌, Bool, true, false, ◌⊎◌, inl, inr, refl, sym, subst, ap, ◌∙◌, arith}
 use Rattle.std.proofs.lemmas.Bool.{cases_eq, ne_eqb}
-use Rattle.seize_words.specs.OneMemory.Mem.{Mem, Took, value_at, word_at}
+use Rattle.seize_words.specs.OneMemory.Mem.{Mem, Took, word_at}
 use Rattle.seize_words.specs.OneMemory.Word.{block_in}
-use Rattle.seize_words.specs.OneMemory.Op.{Op, Out, Load, Exchange, Found, Stored, Exchanged, Made as OutMade, Taken, Roomed}
+use Rattle.seize_words.specs.OneMemory.Op.{Out, Load, Exchange, Found, Stored, Exchanged, Made as OutMade, Taken, Roomed}
 use Rattle.seize_words.specs.declared.at.At.TheVariants.{Root, Word}
-use Rattle.seize.specs.Law.{Unlinked, holds}
+use Rattle.seize.specs.Law.{Unlinked}
 use Rattle.seize.specs.World.{World, Hand, Unlinks, MayCut, times, with_at, with_hand, with_effect}
 use Rattle.seize.specs.World as world
 use Rattle.seize_acts.proofs.Given.SeizeMovesState.Held.{held_on}
 use Rattle.seize_acts.proofs.Given.SeizeRuleRows.Others.{with_here, with_other}
 use Rattle.seize_seats.specs.Seats.State.{State, view_of}
-use Rattle.seize_views.specs.Views.Chains.{IsChainRoot, LinksTo, HoldsAllBelow, HasLink, StandBelow, Chain}
-use Rattle.seize_views.specs.Views.Promises.{IsLooking}
+use Rattle.seize_views.specs.Views.Chains.{IsChainRoot, LinksTo, HoldsAllBelow, StandBelow, Chain}
 use Rattle.seize_views.specs.Views.Rows.{Leads, TurnsTo, had_in, Holds}
 use Rattle.seize_views.specs.Views.Stacking.{IsOnItsWay, WaysBegin, ChainsAreSeen, LinksAreSeen, LinksAreCopied}
 use Rattle.seize_views.specs.Views.Told.{cut_in, told}

@@ -19,7 +19,7 @@ use Rattle.seize_views.specs.declared.view.SlotView.{SlotView}
 use Rattle.seize_views.specs.declared.view.Has.TheVariants.{Nothing, Cut}
 use Rattle.seize_views.specs.declared.view.Fixed.{Fixed}
 use Rattle.seize_views.proofs.Views.Lists.{there, elsewhere}
-use Rattle.seize_views.proofs.Views.Moved.{hand_users, Passes, LinksStay, chains_stay}
+use Rattle.seize_views.proofs.Views.Moved.{hand_users, Passes, LinksStay}
 use Rattle.seize_views.proofs.Views.Came.{since_one, since_then}
 use Rattle.seize_views.proofs.Views.Chains.{chain_kept, same_blocks, linked_beside, linked_back, not_chain}
 use Rattle.seize_views.proofs.Views.Found.{HasNow, AreFound, found_at, has_more, still_has, linked_some}

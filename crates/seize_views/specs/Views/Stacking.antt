@@ -15,7 +15,6 @@ use Rattle.seize_views.specs.declared.view.TheConstants.{LINK}
 use Rattle.seize_views.specs.declared.view.Noted.{Noted}
 use Rattle.seize_views.specs.declared.view.SlotView.{SlotView}
 use Rattle.seize_views.specs.declared.view.SlotView.TheVariants.{Rests, Inside, Joins}
-use Rattle.seize_views.specs.declared.view.Has.{Has}
 use Rattle.seize_views.specs.declared.view.Has.TheVariants.{Nothing, Walks}
 use Rattle.seize_views.specs.declared.view.Fixed.{Fixed}
 

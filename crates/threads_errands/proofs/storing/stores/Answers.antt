@@ -1,4 +1,4 @@
-use Rattle.std.specs.Prelude.{None, Some, Ok}
+use Rattle.std.specs.Prelude.{None, Ok}
 use Rattle.std.proofs.Common.{sym, subst, ◌∙◌}
 use Rattle.papaya_raw.specs.declared.machines.call.KeyCall.{KeyCall}
 use Rattle.papaya_raw.specs.declared.machines.machine.Machine.TheVariants.{Key}

@@ -1,6 +1,5 @@
-use Rattle.std.specs.Prelude.{Result, Ok}
+use Rattle.std.specs.Prelude.{Ok}
 use Rattle.std.proofs.Common.{ℕ, refl, sym, subst}
-use Rattle.map_tables.specs.declared.node.Node.{Node}
 use Rattle.threads_errands.specs.Puts.{HasOwn}
 use Rattle.threads_errands.proofs.Puts.{has_back, has_own}
 use Rattle.threads_steps.specs.Storing.{making}

@@ -1,4 +1,3 @@
-use Rattle.std.specs.Prelude.{◌<◌}
 use Rattle.std.proofs.Common.{refl, subst, ◌∙◌}
 use Rattle.papaya_raw.specs.declared.machines.progress.Progress.{Progress}
 use Rattle.map_tables.specs.declared.node.Node.{Node}

@@ -1,9 +1,7 @@
 use Rattle.std.specs.Fn.{FnOnceReturns}
-use Rattle.std.specs.Prelude.{Option, Some, None, Result}
-use Rattle.std.proofs.Common.{◌≡◌, refl, sym, subst, ◌∙◌}
+use Rattle.std.specs.Prelude.{Result}
+use Rattle.std.proofs.Common.{◌≡◌, refl, sym, subst}
 use Rattle.seize_words.specs.declared.fault.Fault.{Fault}
-use Rattle.papaya_raw.specs.declared.machines.asking.MachineReply.{MachineReply}
-use Rattle.papaya_raw.specs.declared.machines.asking.MachineReply.TheVariants as reply
 use Rattle.papaya_raw.specs.declared.machines.progress.Answer.{Answer}
 use Rattle.threads_steps.specs.Asking.{HasAnswered, MakingSays, PausedSo, makes_pair}
 use Rattle.threads_rule.specs.Errands.Calling.{wanted_of}

@@ -1,15 +1,12 @@
-use Rattle.std.specs.Prelude.{ℕ, Option, Some, None, Result}
-use Rattle.std.proofs.Common.{◌≡◌, inr, refl, sym, subst, ap, ◌∙◌}
+use Rattle.std.specs.Prelude.{ℕ, Option, None, Result}
+use Rattle.std.proofs.Common.{◌≡◌, inr, refl, sym, subst, ◌∙◌}
 use Rattle.seize_words.specs.declared.fault.Fault.{Fault}
 use Rattle.papaya_raw.specs.declared.machines.asking.MachineReply.TheVariants.{Insert}
 use Rattle.papaya_raw.specs.declared.machines.progress.Answer.{Answer}
-use Rattle.threads_rule.specs.declared.view.View.{View}
 use Rattle.threads_steps.specs.Asking.{MakingSays, PausedSo, makes_pair}
-use Rattle.threads_rule.specs.Errands.Calling.{HasEnded, IsAsking, IsUnderWay, outcome_of}
+use Rattle.threads_rule.specs.Errands.Calling.{HasEnded, IsAsking, outcome_of}
 use Rattle.threads_rule.specs.CallKinds.Kinds.{stage_after}
-use Rattle.threads_rule.specs.Errands.Looking.{HasProgressed}
 use Rattle.threads_steps.specs.declared.within.asking.Halt.{Halt}
-use Rattle.threads_steps.specs.declared.within.asking.Halt.TheVariants.{Ended}
 use Rattle.threads_rule.proofs.Errands.Beginnings.{stays_on}
 use Rattle.threads_steps.proofs.Pausing.{asks_missing, asks_no_more, calls_told, gone_on, gone_once, none_said, stays_told}
 use Rattle.threads_steps.proofs.Told.{asks_none}

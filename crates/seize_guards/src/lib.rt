@@ -1,0 +1,13 @@
+//! Guards beside a registration's own: several that have one slot's section open, each by a reference to it, and those of chains, blocks that are put above one
+//! another at a root.
+#![tactic(auto)]
+
+mod desk;
+mod guard;
+mod joined;
+mod joining;
+mod walking;
+
+pub use desk::{Desk, DeskGuard, MOST_GUARDS, Place};
+pub use guard::{ChainGuard, Unstacked};
+pub use joined::Joined;
