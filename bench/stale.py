@@ -280,8 +280,8 @@ def ran(processors, threads, seconds, planted):
 
 def tells(name, said, planted):
     """Prints what the program has found, and ends all where it did not end, or the right bodies came to something."""
-    # a wrong body may lose lists, and go on for ever once something was found
-    found = re.search(r"^found: .*$", said, re.M)
+    # a wrong body may lose lists, and go on for ever once something was found; or the place of a value is empty as it is asked for, which stops the program
+    found = re.search(r"^(found: .*|checked: fault kind=\S+)", said, re.M)
     ended = re.search(r"^turns \d+ put \d+ stale 0 twice 0 left 0$", said, re.M)
     if not (found or ended) or (found and not planted):
         sys.exit(f"{said}\nstale reads: {name}: {'something was found' if found else 'it did not end'}")
