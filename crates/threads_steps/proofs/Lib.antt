@@ -1,7 +1,7 @@
 pub mod Tellings
 mod Calls
 pub mod Calling
-mod Forms
+pub mod Forms
 mod Lookups
 mod Makings
 pub mod Told
