@@ -83,23 +83,26 @@ impl<'f, R: Wait, K: Eq + Hash, V, S: Hashes<K>, Q: Equivalent<K>> Errand<Node<K
     }
 }
 
-/// Removes the pair of a key.
-pub struct Removes<'r, R, K, S> {
+/// Removes the pair of the key for which this stands.
+#[derive(Drop)]
+pub struct Removes<'r, R, Q, S> {
     pub rt: &'r R,
     pub sleepers: &'r Sleepers,
     pub hasher: &'r S,
     pub setting: Setting,
     pub hash: u64,
-    pub key: K,
+    pub key: &'r Q,
 }
 
-impl<'r, R: Wait, K: Eq + Hash + Drop, V: Drop, S: Hashes<K>> Errand<Node<K, V>, OfMaps<S>>
-    for Removes<'r, R, K, S> {
+impl<'r, R: Wait, K: Eq + Hash + Drop, V: Drop, S: Hashes<K>, Q: Equivalent<K>> Errand<
+    Node<K, V>,
+    OfMaps<S>,
+> for Removes<'r, R, Q, S> {
     type Answer = Result<Answer, Fault>;
 
-    ghost asks = { λ r fixed v. MayCall K.eq S.hash r.hasher.now (KeyMachine (removing r.setting r.hash r.key)) v };
+    ghost asks = { λ r fixed v. MayCall K.eq S.hash r.hasher.now (KeyMachine (removing r.setting r.hash (Q.stands_for r.key.now))) v };
 
-    ghost did = { λ r fixed v answer w. HasCalled K.eq S.hash (Remove r.key) answer None v w };
+    ghost did = { λ r fixed v answer w. HasCalled K.eq S.hash (Remove (Q.stands_for r.key.now)) answer None v w };
 
     fn run(
         self,
