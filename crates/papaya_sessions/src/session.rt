@@ -145,10 +145,10 @@ impl<'m, K: Eq + Hash + Drop, V: Drop, S: Hashes<K>> Session<'m, K, V, S> {
 
     /// Removes the pair of a key, and answers whether there was one. It is dropped once no section that was open before holds it. The faults are `Fault::Capacity` and
     /// `Fault::Memory`; then no pair was removed.
-    pub fn remove<R: Wait>(&mut self, rt: &R, key: K) -> Result<bool, Fault>
+    pub fn remove<R: Wait, Q: Form<K, S>>(&mut self, rt: &R, key: &Q) -> Result<bool, Fault>
         ensures keeps { KeepsMap self.old self.new }
-        ensures removed { IfOk result (λ removed. MapGaveUp K.eq S.hash key removed self.old.base.caller self.new.base.caller) }
-        ensures refused { IfErr result (λ fault. WasRefused K.eq S.hash (Remove key) fault self.old.base.caller self.new.base.caller) }
+        ensures removed { IfOk result (λ removed. MapGaveUp K.eq S.hash (Q.stands_for key.now) removed self.old.base.caller self.new.base.caller) }
+        ensures refused { IfErr result (λ fault. WasRefused K.eq S.hash (Remove (Q.stands_for key.now)) fault self.old.base.caller self.new.base.caller) }
     {
         match self.base.remove(rt, key) {
             Ok(taken) => Ok(taken.is_some()),

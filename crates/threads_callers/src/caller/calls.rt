@@ -112,17 +112,17 @@ impl<'a, K: Eq + Hash + Drop, V: Drop, S: Hashes<K>> MapCaller<'a, K, V, S> {
         ran
     }
 
-    /// Removes the pair of this key within its section, from the map that it knows, and answers what the call has told.
-    pub fn removes<R: Wait>(
+    /// Removes the pair of the key for which this stands within its section, from the map that it knows, and answers what the call has told.
+    pub fn removes<R: Wait, Q: Equivalent<K>>(
         &mut self,
         rt: &R,
         hasher: &S,
         setting: Setting,
         hash: u64,
-        key: K,
+        key: &Q,
     ) -> Result<Answer, Fault>
-        requires may { MayCall K.eq S.hash hasher.now (KeyMachine (removing setting hash key)) self.old.seat.view }
-        ensures called { HasCalled K.eq S.hash (Remove key) result None self.old.seat.view self.new.seat.view }
+        requires may { MayCall K.eq S.hash hasher.now (KeyMachine (removing setting hash (Q.stands_for key.now))) self.old.seat.view }
+        ensures called { HasCalled K.eq S.hash (Remove (Q.stands_for key.now)) result None self.old.seat.view self.new.seat.view }
         ensures blocks { self.new.blocks ≡ self.old.blocks }
     {
         self.blocks.errand(
