@@ -13,24 +13,11 @@ ghost use Rattle.seize_views.specs.declared.view.SlotView.TheVariants.{Inside};
 
 use crate::session::{SessionBase, setting_in};
 use map_tables::Hashes;
-use papaya_raw::machines::{Answer, KeyCall, Machine};
+use papaya_raw::machines::{KeyCall, Machine};
 use seize_words::Fault;
 use std::hash::Hash;
 use std::sync::Wait;
-use threads_callers::{Form, Found, Ran, is_put, is_removed, there};
-
-/// Returns what a call has told last.
-fn told_of<K: Drop, V: Drop>(ran: Ran<K, V>) -> Result<Answer, Fault>
-    ensures { result ≡ ran.told }
-{
-    let Ran {
-        told,
-        unstored,
-        near: _,
-    } = ran;
-    drop(unstored);
-    told
-}
+use threads_callers::{Form, Found, is_put, is_removed, there, told_of};
 
 impl<'a, K: Eq + Hash + Drop, V: Drop, S: Hashes<K>> SessionBase<'a, K, V, S> {
     /// Stores a value that is made within the section of its slot, if its key is not there yet, and answers with the pair that is there then, until its next step, and whether it
