@@ -16,6 +16,7 @@ ghost use Rattle.threads_sweeps.specs.Closures.{HasHeeded, HasShownEach};
 ghost use Rattle.threads_sweeps.specs.Onlookers.{HasBeenShown};
 ghost use Rattle.threads_sweeps.specs.Swept.{retains, walks};
 
+mod comparing;
 mod lends;
 mod updates;
 
