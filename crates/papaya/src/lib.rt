@@ -2,6 +2,7 @@
 #![tactic(auto)]
 
 mod builder;
+mod copying;
 mod extending;
 mod making;
 mod pin;

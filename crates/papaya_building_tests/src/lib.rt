@@ -6,4 +6,6 @@ mod asking;
 #[cfg(test)]
 mod building;
 #[cfg(test)]
+mod copying;
+#[cfg(test)]
 mod opening;

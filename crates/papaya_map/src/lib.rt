@@ -2,6 +2,7 @@
 #![tactic(auto)]
 
 mod builder;
+mod cloning;
 mod making;
 mod map;
 mod shared;

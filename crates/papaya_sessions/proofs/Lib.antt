@@ -1,3 +1,4 @@
+mod Compared
 pub mod Extended
 mod OneMap
 mod Under

@@ -1,4 +1,5 @@
 pub mod Asked
+pub mod Compared
 pub mod Extended
 pub mod Given
 pub mod Homes
