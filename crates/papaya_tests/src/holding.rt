@@ -142,7 +142,7 @@ fn is_foreign<T: Drop>(told: Told<T>) -> bool {
 }
 
 /// Whether calls on a set refuse a guard and a pass of another one, and go with their own.
-fn foreign<R: Wait>(rt: &R, alloc: Global) -> Told<[bool; 9]> {
+fn foreign<R: Wait>(rt: &R, alloc: Global) -> Told<[bool; 10]> {
     let mut ids = IdSource::new();
     let own = Set::with_hasher(alloc, &mut ids, Hashing::default())?;
     let other = Set::with_hasher(alloc, &mut ids, Hashing::default())?;
@@ -161,6 +161,7 @@ fn foreign<R: Wait>(rt: &R, alloc: Global) -> Told<[bool; 9]> {
         is_foreign(set.contains(rt, &1, &strange, &mut pass)),
         is_foreign(set.contains(rt, &1, &guard, &mut unknown)),
         is_foreign(set.get(rt, &1, &guard, &mut unknown)),
+        is_foreign(guard.contains_by(rt, &1, &mut unknown)),
         matches!(set.insert(rt, 1, &mut guard), Ok(true)),
         matches!(set.contains(rt, &1, &guard, &mut pass), Ok(true)),
         matches!(set.get(rt, &1, &guard, &mut pass), Ok(Some(1))),
@@ -170,6 +171,6 @@ fn foreign<R: Wait>(rt: &R, alloc: Global) -> Told<[bool; 9]> {
 
 #[test]
 fn a_set_refuses_what_is_of_another_one(rt: HostRuntime) -> Result<(), Fail> {
-    assert_eq!(rt; foreign(&rt, rt.alloc())?, [true; 9]);
+    assert_eq!(rt; foreign(&rt, rt.alloc())?, [true; 10]);
     Ok(())
 }
