@@ -71,7 +71,7 @@ fn moves<R: Wait>(rt: &R, routes: &Routes<'_>, servers: &Servers<'_>) -> Result<
     for server in 1..=LAST {
         at_work.insert(rt, server)?;
         leads(rt, &mut session, server)?;
-        at_work.remove(rt, server.wrapping_sub(1))?;
+        at_work.remove(rt, &server.wrapping_sub(1))?;
         at_work.refresh();
     }
     Ok(())

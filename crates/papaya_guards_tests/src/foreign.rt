@@ -53,16 +53,16 @@ fn stores<R: Wait>(rt: &R, alloc: Global) -> Told<[bool; 12]> {
     Ok([
         has_come_back(map.insert(rt, 1, 2, &mut strange)),
         has_come_back(map.try_insert(rt, 1, 2, &mut strange)),
-        is_foreign(map.remove(rt, 1, &mut strange)),
+        is_foreign(map.remove(rt, &1, &mut strange)),
         is_foreign(map.try_insert_with(rt, 1, || 2, &mut strange)),
-        is_foreign(map.remove_if(rt, 1, |_, _| true, &mut strange)),
+        is_foreign(map.remove_if(rt, &1, |_, _| true, &mut strange)),
         is_foreign(map.update(rt, &1, |value| *value, &mut strange)),
         is_foreign(map.update_or_insert(rt, &1, |value| *value, &2, &mut strange)),
         is_foreign(map.update_or_insert_with(rt, &1, |value| *value, || 2, &mut strange)),
         is_foreign(map.compute(rt, &1, |_| Operation::Insert::<u64, ()>(2), &mut strange)),
         !strange.contains_key(rt, &1),
         matches!(map.insert(rt, 1, 2, &mut guard), Ok(false)),
-        matches!(map.remove(rt, 1, &mut guard), Ok(true)),
+        matches!(map.remove(rt, &1, &mut guard), Ok(true)),
     ])
 }
 

@@ -10,14 +10,14 @@ use std::test::Fail;
 fn stores<R: Wait>(rt: &R, map: &mut Own<'_>) -> Told<[bool; 10]> {
     Ok([
         map.pin().get_key_value(rt, &42).is_none(),
-        !map.remove(rt, 42)?,
+        !map.remove(rt, &42)?,
         !map.update(rt, &42, more)?,
-        !map.remove_if(rt, 42, |_, _| true)?,
+        !map.remove_if(rt, &42, |_, _| true)?,
         !map.insert(rt, 42, 0)?,
         map.insert(rt, 42, 1)?,
         map.get(rt, &42).copied() == Some(1),
         matches!(map.try_insert(rt, 42, 2)?, Attempt::Present(42, 2)),
-        map.remove(rt, 42)?,
+        map.remove(rt, &42)?,
         map.get(rt, &42).is_none(),
     ])
 }
@@ -35,9 +35,9 @@ fn asks<R: Wait>(rt: &R, map: &mut Own<'_>) -> Told<[bool; 9]> {
         *map.get_or_insert(rt, 42, 2)? == 1,
         *map.get_or_insert_with(rt, 42, again)? == 1,
         *map.get_or_insert_with(rt, 43, || 3)? == 3,
-        !map.remove_if(rt, 42, |_, value| *value == 2)?,
-        map.remove_if(rt, 42, |key, value| *key == 42 && *value == 1)?,
-        matches!(map.remove_entry(rt, 43)?, Some((43, 3))),
+        !map.remove_if(rt, &42, |_, value| *value == 2)?,
+        map.remove_if(rt, &42, |key, value| *key == 42 && *value == 1)?,
+        matches!(map.remove_entry(rt, &43)?, Some((43, 3))),
         asked.load(SeqCst) == 0,
     ])
 }

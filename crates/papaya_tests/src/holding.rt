@@ -54,12 +54,12 @@ fn one<R: Wait>(rt: &R, set: &mut Own<'_>) -> Told<[bool; 10]> {
     Ok([
         set.clear(rt).is_ok(),
         set.retain(rt, |_| false).is_ok(),
-        !set.remove(rt, 42)?,
+        !set.remove(rt, &42)?,
         set.is_empty(),
         set.insert(rt, 42)?,
         !set.insert(rt, 42)?,
         set.contains(rt, &42),
-        set.remove(rt, 42)?,
+        set.remove(rt, &42)?,
         set.pin().get(rt, &42).is_none(),
         !set.pin().contains(rt, &42),
     ])
@@ -101,7 +101,7 @@ fn puts<R: Wait>(rt: &R, mut set: Own<'_>) -> Told<u64> {
 fn takes<R: Wait>(rt: &R, mut set: Own<'_>) -> Told<u64> {
     let mut bits = 0u64;
     for key in 0..64u64 {
-        bits = u64::wrapping_add(u64::wrapping_mul(bits, 2), u64::from(set.remove(rt, key)?));
+        bits = u64::wrapping_add(u64::wrapping_mul(bits, 2), u64::from(set.remove(rt, &key)?));
         set.refresh();
     }
     Ok(bits)
@@ -157,7 +157,7 @@ fn foreign<R: Wait>(rt: &R, alloc: Global) -> Told<[bool; 10]> {
     };
     Ok([
         back,
-        is_foreign(set.remove(rt, 1, &mut strange)),
+        is_foreign(set.remove(rt, &1, &mut strange)),
         is_foreign(set.contains(rt, &1, &strange, &mut pass)),
         is_foreign(set.contains(rt, &1, &guard, &mut unknown)),
         is_foreign(set.get(rt, &1, &guard, &mut unknown)),
@@ -165,7 +165,7 @@ fn foreign<R: Wait>(rt: &R, alloc: Global) -> Told<[bool; 10]> {
         matches!(set.insert(rt, 1, &mut guard), Ok(true)),
         matches!(set.contains(rt, &1, &guard, &mut pass), Ok(true)),
         matches!(set.get(rt, &1, &guard, &mut pass), Ok(Some(1))),
-        matches!(set.remove(rt, 1, &mut guard), Ok(true)),
+        matches!(set.remove(rt, &1, &mut guard), Ok(true)),
     ])
 }
 

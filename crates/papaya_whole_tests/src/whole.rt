@@ -55,7 +55,7 @@ fn finds<R: Wait>(rt: &R, session: &mut Own<'_>, many: u64, more: u64) -> u64 {
 fn lowers<R: Wait>(rt: &R, session: &mut Own<'_>, many: u64, removes: bool) -> Told<u64> {
     for key in 0..many {
         if removes {
-            let _ = session.remove(rt, key)?;
+            let _ = session.remove(rt, &key)?;
         } else {
             let _ = session.update(rt, &key, |value| u64::wrapping_sub(*value, 1))?;
         }

@@ -74,18 +74,22 @@ impl<'a, K: Eq + Hash + Drop, V: Drop, S: Hashes<K>> SessionBase<'a, K, V, S> {
 
     /// Removes the pair of a key within the section of its slot, and answers with that, if there was one: it is there until the session takes its next step. The faults are
     /// `Memory` and `Capacity`: no pair was removed then. What was removed is reclaimed once no section that had begun before holds it.
-    pub fn remove<R: Wait>(&mut self, rt: &R, key: K) -> Result<Option<Found>, Fault>
+    pub fn remove<R: Wait, Q: Form<K, S>>(
+        &mut self,
+        rt: &R,
+        key: &Q,
+    ) -> Result<Option<Found>, Fault>
         requires inside { self.old.caller.seat.view.slot ≡ Inside self.old.slot Nothing }
         ensures inside { self.new.caller.seat.view.slot ≡ Inside self.new.slot Nothing }
         ensures slot { self.new.slot ≡ self.old.slot }
-        ensures removed { IfOk result (λ taken. HasRemoved K.eq S.hash key (is_some taken) self.old.caller.seat.view self.new.caller.seat.view) }
-        ensures taken { IfOk result (λ taken. HasTakenOut K.eq S.hash key (option_map (λ found. found.word) taken) self.old.caller.seat.view self.new.caller.seat.view) }
+        ensures removed { IfOk result (λ taken. HasRemoved K.eq S.hash (Q.stands_for key.now) (is_some taken) self.old.caller.seat.view self.new.caller.seat.view) }
+        ensures taken { IfOk result (λ taken. HasTakenOut K.eq S.hash (Q.stands_for key.now) (option_map (λ found. found.word) taken) self.old.caller.seat.view self.new.caller.seat.view) }
         ensures shown { IfOk result (λ taken. IfSome taken (λ found. Shows self.new.caller found.word)) }
-        ensures refused { IfErr result (λ fault. HasRun K.eq S.hash (Remove key) (outcome_of (Err fault)) self.old.caller.seat.view self.new.caller.seat.view) }
+        ensures refused { IfErr result (λ fault. HasRun K.eq S.hash (Remove (Q.stands_for key.now)) (outcome_of (Err fault)) self.old.caller.seat.view self.new.caller.seat.view) }
         ensures map { self.new.caller.seat.view.map ≡ self.old.caller.seat.view.map }
         ensures blocks { self.new.caller.blocks ≡ self.old.caller.blocks }
     {
-        let hash = self.hasher.hash_of(&key);
+        let hash = key.hash_by(self.hasher);
         let setting = setting_in(self.setting, self.slot);
         match self.caller.removes(rt, self.hasher, setting, hash, key) {
             Ok(answer) => Ok(removed(&answer)),
