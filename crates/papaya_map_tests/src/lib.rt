@@ -2,12 +2,10 @@
 //! maps begin, are to find.
 //!
 //! A `get` that answers the opening state, so that nothing is there: `what_a_session_has_put_there_stays_once_it_has_ended`, `threads_begin_sessions_of_their_own` and
-//! `each_key_is_changed_once_for_each_call` fail.
+//! `each_call_on_a_key_answers_what_is_there` fail.
 //!
 //! An `insert` that drops its write: these three fail, and `shared_cache` tells that fewer values were dropped.
 #![tactic(auto)]
 
 #[cfg(test)]
-mod alone;
-#[cfg(test)]
-mod storing;
+mod keys;

@@ -17,25 +17,19 @@ type Own<'m> = SetSession<'m, u64, Hashing>;
 
 type Told<T> = Result<T, Fault>;
 
-/// Whether each reason comes before those that follow it, and whether a source of one number still has that afterwards; and whether a builder is shown as its map's.
-fn reasons(alloc: Global, one: RandomState, other: RandomState) -> Told<[bool; 6]> {
+/// Whether a set for which there is no table is refused, and a source of one number still has that then, and gives none any more.
+fn made(alloc: Global, one: RandomState, other: RandomState) -> [bool; 4] {
     let mut ids = IdSource::starting_at(u64::MAX - 1);
-    let builder = Set::builder(Hashing::default()).resize_mode(ResizeMode::Incremental(0));
-    let shown = format!(in alloc; "{builder:?}")?;
-    let zero = builder.capacity(u64::MAX).build(alloc, &mut ids);
     let many = Set::with_capacity_and_hasher(alloc, &mut ids, u64::MAX, Hashing::default());
     let still = HashSet::<u64>::with_capacity(alloc, &mut ids, 100, one);
     let none = Set::with_hasher(alloc, &mut ids, Hashing::default());
     let new = HashSet::<u64>::new(alloc, &mut ids, other);
-    Ok([
-        shown.as_str()
-            == "HashMapBuilder { capacity: 0, collector: None, resize_mode: Incremental(0) }",
-        matches!(zero, Err(Fault::ZeroChunk)),
+    [
         matches!(many, Err(Fault::Capacity)),
         still.is_ok(),
         matches!(none, Err(Fault::CollectorsUsedUp)),
         matches!(new, Err(Fault::CollectorsUsedUp)),
-    ])
+    ]
 }
 
 /// A set of this mode, which was built with all that can be chosen.
@@ -88,46 +82,44 @@ fn three<R: Wait>(rt: &R, set: &mut Own<'_>) -> Told<[bool; 10]> {
     ])
 }
 
-/// Puts 64 keys into the set: which of them were new, a bit for each.
-fn puts<R: Wait>(rt: &R, mut set: Own<'_>) -> Told<u64> {
+/// Puts 64 keys into the set, or takes them out: which of them were new, or were there, a bit for each.
+fn changes<R: Wait>(rt: &R, mut set: Own<'_>, takes: bool) -> Told<u64> {
     let mut bits = 0u64;
     for key in 0..64u64 {
-        bits = u64::wrapping_add(u64::wrapping_mul(bits, 2), u64::from(set.insert(rt, key)?));
-    }
-    Ok(bits)
-}
-
-/// Takes them out: which of them were there, a bit for each.
-fn takes<R: Wait>(rt: &R, mut set: Own<'_>) -> Told<u64> {
-    let mut bits = 0u64;
-    for key in 0..64u64 {
-        bits = u64::wrapping_add(u64::wrapping_mul(bits, 2), u64::from(set.remove(rt, &key)?));
+        let done = if takes {
+            set.remove(rt, &key)?
+        } else {
+            set.insert(rt, key)?
+        };
+        bits = u64::wrapping_add(u64::wrapping_mul(bits, 2), u64::from(done));
         set.refresh();
     }
     Ok(bits)
 }
 
-/// Two threads put the same keys into a set, and take them out then: for which keys just one of them has, and how many are left.
-fn both<R: Threads + Wait + Sync>(rt: &R, set: &Set) -> Told<[u64; 3]> {
+/// Two threads do so. Answers for which keys just one of them has.
+fn both<R: Threads + Wait + Sync>(rt: &R, set: &Set, takes: bool) -> Told<u64> {
     let (first, second) = (set.session()?, set.session()?);
-    let (one, other) = thread::join(rt, || puts(rt, first), || puts(rt, second));
-    let new = one? ^ other?;
-    let (first, second) = (set.session()?, set.session()?);
-    let (one, other) = thread::join(rt, || takes(rt, first), || takes(rt, second));
-    Ok([new, one? ^ other?, set.register()?.enter().len()])
+    let (one, other) = thread::join(
+        rt,
+        || changes(rt, first, takes),
+        || changes(rt, second, takes),
+    );
+    Ok(one? ^ other?)
 }
 
 /// All that, of one set.
 fn says<R: Threads + Wait + Sync>(rt: &R, set: &Set) -> Told<([bool; 10], [bool; 10], [u64; 3])> {
     let mut session = set.session()?;
     let (one, three) = (one(rt, &mut session)?, three(rt, &mut session)?);
-    Ok((one, three, both(rt, set)?))
+    let (new, taken) = (both(rt, set, false)?, both(rt, set, true)?);
+    Ok((one, three, [new, taken, set.register()?.enter().len()]))
 }
 
 #[test]
 fn a_set_has_what_it_was_left_and_says_so(rt: HostRuntime) -> Result<(), Fail> {
     let (hasher, other) = (RandomState::new(&rt)?, RandomState::new(&rt)?);
-    assert_eq!(rt; reasons(rt.alloc(), hasher, other)?, [true; 6]);
+    assert_eq!(rt; made(rt.alloc(), hasher, other), [true; 4]);
     for mode in MODES {
         let set = built(rt.alloc(), RandomState::new(&rt)?, mode)?;
         let said = says(&rt, &set)?;

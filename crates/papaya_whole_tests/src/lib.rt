@@ -2,6 +2,4 @@
 #![tactic(auto)]
 
 #[cfg(test)]
-mod meeting;
-#[cfg(test)]
 mod whole;

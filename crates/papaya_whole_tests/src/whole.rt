@@ -1,10 +1,12 @@
-//! Calls on a whole map, in each mode: what one session counts, is shown and keeps, few keys and many; and keys that are found while another thread makes room.
-use papaya_map::{Fault, HashMap, IdSource, ResizeMode, Session};
+//! Calls on a whole map, in each mode: what one session counts, is shown and keeps, few keys and many; keys that are found while another thread makes room; and two threads
+//! that go over all pairs until they meet.
+use papaya_map::{Fault, HashMap, IdSource, Onlooker, ResizeMode, Session};
 use std::alloc::Global;
 use std::hash::{BuildHasherDefault, DefaultHasher};
 use std::sync::Wait;
 use std::test::Fail;
 use std::thread::{self, Threads};
+use std::time::{Clock, Duration};
 
 /// How many keys there are at first.
 const FEW: u64 = 1_024;
@@ -15,26 +17,32 @@ const MANY: u64 = 10_000;
 /// How often all keys are looked up while room is made.
 const ROUNDS: u64 = 32;
 
+/// How many keys stay.
+const STAY: u64 = 100;
+
+/// How often one looks for what the other one leaves, a millisecond apart.
+const LOOKS: u64 = 20_000;
+
 /// How the map comes to its next tables.
-pub(crate) const MODES: [ResizeMode; 2] = [ResizeMode::Incremental(64), ResizeMode::Blocking];
+const MODES: [ResizeMode; 2] = [ResizeMode::Incremental(64), ResizeMode::Blocking];
 
 type Hashing = BuildHasherDefault<DefaultHasher>;
 
-pub(crate) type Map = HashMap<u64, u64, Hashing>;
+type Map = HashMap<u64, u64, Hashing>;
 
-pub(crate) type Own<'m> = Session<'m, u64, u64, Hashing>;
+type Own<'m> = Session<'m, u64, u64, Hashing>;
 
-pub(crate) type Told<T> = Result<T, Fault>;
+type Told<T> = Result<T, Fault>;
 
 /// A map of this mode.
-pub(crate) fn made(alloc: Global, mode: ResizeMode) -> Told<Map> {
+fn made(alloc: Global, mode: ResizeMode) -> Told<Map> {
     let mut ids = IdSource::new();
     let builder = HashMap::builder(Hashing::default()).resize_mode(mode);
     builder.build(alloc, &mut ids)
 }
 
 /// Stores so many keys, each with its successor, and answers how many pairs are counted then.
-pub(crate) fn fills<R: Wait>(rt: &R, session: &mut Own<'_>, many: u64) -> Told<u64> {
+fn fills<R: Wait>(rt: &R, session: &mut Own<'_>, many: u64) -> Told<u64> {
     for key in 0..many {
         let _ = session.insert(rt, key, u64::wrapping_add(key, 1))?;
     }
@@ -64,7 +72,7 @@ fn lowers<R: Wait>(rt: &R, session: &mut Own<'_>, many: u64, removes: bool) -> T
 }
 
 /// How many of so many keys a walk shows, each with its successor, and how many other pairs.
-pub(crate) fn shown<R: Wait>(rt: &R, session: &mut Own<'_>, many: u64) -> Told<(u64, u64)> {
+fn shown<R: Wait>(rt: &R, session: &mut Own<'_>, many: u64) -> Told<(u64, u64)> {
     let (mut own, mut others) = (0u64, 0u64);
     session.each(rt, |key, value| {
         if *key < many && u64::wrapping_add(*key, 1) == *value {
@@ -127,16 +135,6 @@ fn says<R: Wait>(rt: &R, map: &Map) -> Told<([bool; 10], [bool; 7], [bool; 8])> 
     Ok((few, kept, many(rt, &mut session)?))
 }
 
-#[test]
-fn a_map_says_of_all_its_pairs_what_was_stored(rt: HostRuntime) -> Result<(), Fail> {
-    for mode in MODES {
-        let map = made(rt.alloc(), mode)?;
-        let said = says(&rt, &map)?;
-        assert_eq!(rt; said, ([true; 10], [true; 7], [true; 8]));
-    }
-    Ok(())
-}
-
 /// Makes room again and again, twice as much each time.
 fn reserves<R: Wait>(rt: &R, mut session: Own<'_>) -> Told<()> {
     for more in [2_048u64, 4_096, 8_192, 16_384, 32_768] {
@@ -167,11 +165,68 @@ fn grows<R: Threads + Wait + Sync>(rt: &R, map: &Map) -> Told<(u64, u64)> {
 
 // Each lookup finds its key, whatever tables there are. A body that served one thread after the other would pass, too.
 #[test]
-fn keys_are_found_while_room_is_made(rt: HostRuntime) -> Result<(), Fail> {
+fn a_map_says_of_all_its_pairs_what_was_stored(rt: HostRuntime) -> Result<(), Fail> {
     for mode in MODES {
         let map = made(rt.alloc(), mode)?;
-        let grown = grows(&rt, &map)?;
+        let (said, grown) = (says(&rt, &map)?, grows(&rt, &made(rt.alloc(), mode)?)?);
+        assert_eq!(rt; said, ([true; 10], [true; 7], [true; 8]));
         assert_eq!(rt; grown, (ROUNDS * FEW, FEW));
+    }
+    Ok(())
+}
+
+/// An onlooker that counts what it is shown.
+#[derive(Drop)]
+struct Counts {
+    pairs: u64,
+}
+
+impl Onlooker<u64, u64> for Counts {
+    ghost may_see = { λ counts. Unit {0} };
+
+    ghost has_seen = { λ counts key value n. Unit {0} };
+
+    fn sees(&mut self, _: &u64, _: &u64) {
+        self.pairs = u64::wrapping_add(self.pairs, 1);
+    }
+}
+
+/// Stores one further key, and goes over the pairs until it is shown that of the other one, too. Answers whether that came, and each time all were shown that stay.
+fn meets<R: Wait + Clock>(rt: &R, mut session: Own<'_>, own: u64) -> Told<bool> {
+    let _ = session.insert(rt, own, 0)?;
+    for _ in 0..LOOKS {
+        let (staying, others) = shown(rt, &mut session, STAY)?;
+        if staying != STAY || others == 2 {
+            return Ok(staying == STAY);
+        }
+        session.refresh();
+        thread::sleep(rt, Duration::from_millis(1));
+    }
+    Ok(false)
+}
+
+/// Two threads do so. Answers whether both have met, and how many pairs an onlooker is shown then.
+fn meet<R: Threads + Wait + Clock + Sync>(rt: &R, map: &Map) -> Told<([bool; 2], u64)> {
+    let mut first = map.session()?;
+    let (second, third) = (first.another()?, first.another()?);
+    let _ = fills(rt, &mut first, STAY)?;
+    let (one, other) = thread::join(
+        rt,
+        || meets(rt, second, STAY),
+        || meets(rt, third, STAY + 1),
+    );
+    let (end, counts) = first.shows_to(rt, Counts { pairs: 0 });
+    end?;
+    Ok(([one?, other?], counts.pairs))
+}
+
+// Were the threads served one after another, the first one would not be shown the key of the second. Each walk shows all keys that stay, whatever comes meanwhile.
+#[test]
+fn two_walks_show_what_stays_and_meet_what_comes(rt: HostRuntime) -> Result<(), Fail> {
+    for mode in MODES {
+        let map = made(rt.alloc(), mode)?;
+        let met = meet(&rt, &map)?;
+        assert_eq!(rt; met, ([true; 2], STAY + 2));
     }
     Ok(())
 }

@@ -1,34 +1,37 @@
-//! Two threads store pairs of the same keys, change them, store what is missing, and remove them, as the map comes to its next tables in each mode.
-use papaya_map::{Attempt, Fault, HashMap, IdSource, ResizeMode, Session};
+//! Calls on one key, in a map of each mode: two threads store pairs of the same keys, change them, store what is missing, and remove them; and what the calls of one session
+//! answer, one after another.
+use papaya_map::{Attempt, ComputedPair, Fault, HashMap, IdSource, Operation, ResizeMode, Session};
 use std::alloc::Global;
 use std::hash::{BuildHasherDefault, DefaultHasher};
 use std::sync::Wait;
+use std::sync::atomic::AtomicU64;
+use std::sync::atomic::Ordering::SeqCst;
 use std::test::Fail;
 use std::thread::{self, Threads};
 
 /// How the map comes to its next tables.
-pub(crate) const MODES: [ResizeMode; 2] = [ResizeMode::Incremental(1), ResizeMode::Blocking];
+const MODES: [ResizeMode; 2] = [ResizeMode::Incremental(1), ResizeMode::Blocking];
 
 /// How many keys there are: a bit of a number for each.
 const KEYS: u64 = 64;
 
 type Hashing = BuildHasherDefault<DefaultHasher>;
 
-pub(crate) type Map = HashMap<u64, u64, Hashing>;
+type Map = HashMap<u64, u64, Hashing>;
 
-pub(crate) type Own<'m> = Session<'m, u64, u64, Hashing>;
+type Own<'m> = Session<'m, u64, u64, Hashing>;
 
-pub(crate) type Told<T> = Result<T, Fault>;
+type Told<T> = Result<T, Fault>;
 
 /// A map of this mode.
-pub(crate) fn made(alloc: Global, mode: ResizeMode) -> Told<Map> {
+fn made(alloc: Global, mode: ResizeMode) -> Told<Map> {
     let mut ids = IdSource::new();
     let builder = HashMap::builder(Hashing::default()).resize_mode(mode);
     builder.build(alloc, &mut ids)
 }
 
 /// One more than a count.
-pub(crate) fn more(count: &u64) -> u64 {
+fn more(count: &u64) -> u64 {
     u64::wrapping_add(*count, 1)
 }
 
@@ -112,12 +115,82 @@ fn change<R: Threads + Wait + Sync>(rt: &R, map: &Map) -> Told<[u64; 7]> {
     ])
 }
 
+/// Where the key is missing, stored, replaced and removed.
+fn stores<R: Wait>(rt: &R, map: &mut Own<'_>) -> Told<[bool; 10]> {
+    Ok([
+        map.pin().get_key_value(rt, &42).is_none(),
+        !map.remove(rt, &42)?,
+        !map.update(rt, &42, more)?,
+        !map.remove_if(rt, &42, |_, _| true)?,
+        !map.insert(rt, 42, 0)?,
+        map.insert(rt, 42, 1)?,
+        map.get(rt, &42).copied() == Some(1),
+        matches!(map.try_insert(rt, 42, 2)?, Attempt::Present(42, 2)),
+        map.remove(rt, &42)?,
+        map.get(rt, &42).is_none(),
+    ])
+}
+
+/// Where a pair is stored if the key is missing, and removed if a test says yes of it; and whether no closure was asked for nothing.
+fn asks<R: Wait>(rt: &R, map: &mut Own<'_>) -> Told<[bool; 9]> {
+    let asked = AtomicU64::new(0);
+    let again = || {
+        asked.store(1, SeqCst);
+        7
+    };
+    Ok([
+        map.try_insert_with(rt, 42, || 1)?,
+        !map.try_insert_with(rt, 42, again)?,
+        *map.get_or_insert(rt, 42, 2)? == 1,
+        *map.get_or_insert_with(rt, 42, again)? == 1,
+        *map.get_or_insert_with(rt, 43, || 3)? == 3,
+        !map.remove_if(rt, &42, |_, value| *value == 2)?,
+        map.remove_if(rt, &42, |key, value| *key == 42 && *value == 1)?,
+        matches!(map.remove_entry(rt, &43)?, Some((43, 3))),
+        asked.load(SeqCst) == 0,
+    ])
+}
+
+/// A count of 1 where there is none, 2 in its place, and none in that of 2; another count stays, and is answered.
+fn turns(pair: Option<(&u64, &u64)>) -> Operation<u64, u64> {
+    match pair {
+        None => Operation::Insert(1),
+        Some((_, 1)) => Operation::Insert(2),
+        Some((_, 2)) => Operation::Remove,
+        Some((_, count)) => Operation::Abort(*count),
+    }
+}
+
+/// Where a key is computed by what is there, each time, or counted up.
+fn computes<R: Wait>(rt: &R, map: &mut Own<'_>) -> Told<[bool; 9]> {
+    let none = map.compute(rt, &65, |_| Operation::Remove::<u64, ()>);
+    Ok([
+        matches!(none, Err(Fault::RemoveNothing)),
+        matches!(map.compute(rt, &65, turns)?, ComputedPair::Inserted),
+        matches!(map.compute(rt, &65, turns)?, ComputedPair::Updated),
+        matches!(map.compute(rt, &65, turns)?, ComputedPair::Removed),
+        !map.update_or_insert_with(rt, &65, more, || 2)?,
+        map.update_or_insert_with(rt, &65, more, || 2)?,
+        map.update_or_insert(rt, &65, more, &2)?,
+        matches!(map.compute(rt, &65, turns)?, ComputedPair::Aborted(4)),
+        map.len() == 1,
+    ])
+}
+
+/// All that, of one session.
+fn says<R: Wait>(rt: &R, map: &Map) -> Told<([bool; 10], [bool; 9], [bool; 9])> {
+    let mut session = map.session()?;
+    let (stored, asked) = (stores(rt, &mut session)?, asks(rt, &mut session)?);
+    Ok((stored, asked, computes(rt, &mut session)?))
+}
+
 // Of two calls on a key one comes first, whoever is faster. A body that served one thread after the other would pass, too.
 #[test]
-fn each_key_is_changed_once_for_each_call(rt: HostRuntime) -> Result<(), Fail> {
+fn each_call_on_a_key_answers_what_is_there(rt: HostRuntime) -> Result<(), Fail> {
     for mode in MODES {
         let map = made(rt.alloc(), mode)?;
-        let changed = change(&rt, &map)?;
+        let (said, changed) = (says(&rt, &map)?, change(&rt, &map)?);
+        assert_eq!(rt; said, ([true; 10], [true; 9], [true; 9]));
         assert_eq!(rt; changed, [u64::MAX; 7]);
     }
     Ok(())
