@@ -116,7 +116,7 @@ fn change<R: Threads + Wait + Sync>(rt: &R, map: &Map) -> Told<[u64; 7]> {
 }
 
 /// Where the key is missing, stored, replaced and removed.
-fn stores<R: Wait>(rt: &R, map: &mut Own<'_>) -> Told<[bool; 10]> {
+fn keeps<R: Wait>(rt: &R, map: &mut Own<'_>) -> Told<[bool; 10]> {
     Ok([
         map.pin().get_key_value(rt, &42).is_none(),
         !map.remove(rt, &42)?,
@@ -180,8 +180,8 @@ fn computes<R: Wait>(rt: &R, map: &mut Own<'_>) -> Told<[bool; 9]> {
 /// All that, of one session.
 fn says<R: Wait>(rt: &R, map: &Map) -> Told<([bool; 10], [bool; 9], [bool; 9])> {
     let mut session = map.session()?;
-    let (stored, asked) = (stores(rt, &mut session)?, asks(rt, &mut session)?);
-    Ok((stored, asked, computes(rt, &mut session)?))
+    let (kept, asked) = (keeps(rt, &mut session)?, asks(rt, &mut session)?);
+    Ok((kept, asked, computes(rt, &mut session)?))
 }
 
 // Of two calls on a key one comes first, whoever is faster. A body that served one thread after the other would pass, too.
