@@ -193,17 +193,17 @@ impl<'m, K: Eq + Hash + Drop, V: Drop, S: Hashes<K>> Session<'m, K, V, S> {
 
     /// Removes the pair of a key, if the test says yes of it, and answers whether it has. The test is called again where another pair of the key has taken the place of the
     /// first. The faults are `Fault::Capacity` and `Fault::Memory`: no pair was removed then.
-    pub fn remove_if<R: Wait, F: Fn(&K, &V) -> bool>(
+    pub fn remove_if<R: Wait, Q: Form<K, S>, F: Fn(&K, &V) -> bool>(
         &mut self,
         rt: &R,
-        key: K,
+        key: &Q,
         test: F,
     ) -> Result<bool, Fault>
         requires callable { F.IsAlwaysCallable test }
         ensures keeps { KeepsMap self.old self.new }
-        ensures removed { IfOk result (λ removed. HasRemovedIf K.eq S.hash key removed self.old.base.caller self.new.base.caller) }
-        ensures asked { HasAsked K.eq S.hash (TestSays (MayTest F.Fn test)) (RemoveIf key) self.old.base.caller.seat.view self.new.base.caller.seat.view }
-        ensures refused { IfErr result (λ fault. HasBeenRefused K.eq S.hash (RemoveIf key) fault self.old.base.caller self.new.base.caller) }
+        ensures removed { IfOk result (λ removed. HasRemovedIf K.eq S.hash (Q.stands_for key.now) removed self.old.base.caller self.new.base.caller) }
+        ensures asked { HasAsked K.eq S.hash (TestSays (MayTest F.Fn test)) (RemoveIf (Q.stands_for key.now)) self.old.base.caller.seat.view self.new.base.caller.seat.view }
+        ensures refused { IfErr result (λ fault. HasBeenRefused K.eq S.hash (RemoveIf (Q.stands_for key.now)) fault self.old.base.caller self.new.base.caller) }
     {
         self.base.remove_if(rt, key, test)
     }

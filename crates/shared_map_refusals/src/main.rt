@@ -158,13 +158,13 @@ fn tests<R: Wait>(
     key: u64,
     value: u64,
 ) -> bool {
-    let removed = match session.remove_if(rt, key, |_, there| *there == value) {
+    let removed = match session.remove_if(rt, &key, |_, there| *there == value) {
         Ok(removed) => removed,
         Err(fault) => {
             let still = matches!(fault, Fault::Memory) && session.contains_key(rt, &key);
             still
                 && matches!(
-                    session.remove_if(rt, key, |_, there| *there == value),
+                    session.remove_if(rt, &key, |_, there| *there == value),
                     Ok(true)
                 )
         }

@@ -1,5 +1,5 @@
 -- Calls by a form of a key. A lookup asks of each key whether that equals the one for which the form stands, so its steps are those of the lookup by that one; and so it is with any call.
-use Rattle.std.specs.Prelude.{Option, Some, None, option_map}
+use Rattle.std.specs.Prelude.{Option, Some, None, Result, option_map}
 use Rattle.std.proofs.Common.{◌≡◌, ℕ, Bool, refl, subst, sym, ap, ◌∙◌}
 use Rattle.std.proofs.Math.Path.{fun_ext}
 use Rattle.seize_words.specs.OneMemory.Op.{Op, Out}
@@ -11,10 +11,11 @@ use Rattle.map_tables.specs.declared.resize_mode.ResizeMode.{ResizeMode}
 use Rattle.map_machines.specs.Lookup.{lookup_plan, looking}
 use Rattle.map_machines.specs.declared.lookup.Lookup.{Lookup}
 use Rattle.papaya_raw.specs.Call.{call_plan}
-use Rattle.papaya_raw.specs.Machine.{machine_plan, called as as_machine}
+use Rattle.papaya_raw.specs.Machine.{machine_plan, machine_replied, called as as_machine}
 use Rattle.papaya_raw.specs.Progress.{of_called}
 use Rattle.papaya_raw.specs.declared.machines.answer.Called.{Called}
 use Rattle.papaya_raw.specs.declared.machines.answer.Called.TheVariants as tells
+use Rattle.papaya_raw.specs.declared.machines.asking.MachineReply.{MachineReply}
 use Rattle.papaya_raw.specs.declared.machines.call.KeyCall.{KeyCall}
 use Rattle.papaya_raw.specs.declared.machines.machine.Machine.{Machine}
 use Rattle.papaya_raw.specs.declared.machines.machine.Machine.TheVariants as kinds
@@ -25,7 +26,7 @@ use Rattle.seize_straight.specs.Reaches.{Told}
 use Rattle.seize_straight.specs.Runs.{none_taken, one_more}
 use Rattle.seize_straight.proofs.Running.{by_law, may_step, runs_on}
 use Rattle.map_measures.specs.ByKey.ByKey.{by_key, end_by_key, key_call}
-use Rattle.map_measures.proofs.ByKey.Plans.{steps_by_key}
+use Rattle.map_measures.proofs.ByKey.Plans.{replies_by_key, steps_by_key}
 use Rattle.map_straight.specs.Straight.Going.{CallGoes, CallLeads, CallReaches, LookReaches, MayCall, MayLook}
 use Rattle.map_straight.specs.Straight.Looking.{sight_at}
 use Rattle.map_straight.specs.declared.looking.Sight.{Sight}
@@ -71,6 +72,12 @@ by_key_of_keys {K} {V} (kinds.Key c) = ap (λ (asked : Option K). kinds.Key {V =
 by_key_of_keys (kinds.Reserve r) = refl
 by_key_of_keys (kinds.Sweep r) = refl
 by_key_of_keys (kinds.Count r) = refl
+
+-- what a call by a form is told, the call by the key is told
+pub replied_by : {K V Q : Type 0} (stands_for : Q → K) (machine next : Machine K V Q) (told : MachineReply V) (back : Result Unit (MachineReply V)) → (next, back) ≡ machine_replied machine told
+    → (by_key stands_for next, back) ≡ machine_replied (by_key stands_for machine) told
+replied_by {K} {V} {Q} stands_for machine next told back is =
+    ap (λ (x : Machine K V Q × Result Unit (MachineReply V)). (by_key stands_for x.0, x.1)) is ∙ sym ((replies_by_key V stands_for machine).0 told)
 
 -- what a call on one key tells, by what its machine tells
 abbrev told_by : {T : Type 0} → Progress T → Called T

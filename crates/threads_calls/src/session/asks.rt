@@ -13,24 +13,11 @@ ghost use Rattle.seize_views.specs.declared.view.SlotView.TheVariants.{Inside};
 
 use crate::session::{SessionBase, setting_in};
 use map_tables::Hashes;
-use papaya_raw::machines::{Answer, KeyCall, Machine};
+use papaya_raw::machines::{KeyCall, Machine};
 use seize_words::Fault;
 use std::hash::Hash;
 use std::sync::Wait;
-use threads_callers::{Found, Ran, is_put, is_removed, there};
-
-/// Returns what a call has told last.
-fn told_of<K: Drop, V: Drop>(ran: Ran<K, V>) -> Result<Answer, Fault>
-    ensures { result ≡ ran.told }
-{
-    let Ran {
-        told,
-        unstored,
-        near: _,
-    } = ran;
-    drop(unstored);
-    told
-}
+use threads_callers::{Form, Found, is_put, is_removed, there, told_of};
 
 impl<'a, K: Eq + Hash + Drop, V: Drop, S: Hashes<K>> SessionBase<'a, K, V, S> {
     /// Stores a value that is made within the section of its slot, if its key is not there yet, and answers with the pair that is there then, until its next step, and whether it
@@ -67,28 +54,27 @@ impl<'a, K: Eq + Hash + Drop, V: Drop, S: Hashes<K>> SessionBase<'a, K, V, S> {
 
     /// Removes the pair of a key within the section of its slot, if the test says yes of it, and answers whether it has. The test is called again where another pair of the key
     /// has taken the place of the first. The faults are `Memory` and `Capacity`: no pair was removed then.
-    pub fn remove_if<R: Wait, F: Fn(&K, &V) -> bool>(
+    pub fn remove_if<R: Wait, Q: Form<K, S>, F: Fn(&K, &V) -> bool>(
         &mut self,
         rt: &R,
-        key: K,
+        key: &Q,
         test: F,
     ) -> Result<bool, Fault>
         requires inside { self.old.caller.seat.view.slot ≡ Inside self.old.slot Nothing }
         requires callable { F.IsAlwaysCallable test }
         ensures inside { self.new.caller.seat.view.slot ≡ Inside self.new.slot Nothing }
         ensures slot { self.new.slot ≡ self.old.slot }
-        ensures removed { IfOk result (λ removed. (answer : AnAnswer) × HasRun K.eq S.hash (RemoveIf key) (outcome_of (Ok answer)) self.old.caller.seat.view self.new.caller.seat.view × (removed ≡ removes answer)) }
-        ensures refused { IfErr result (λ fault. HasRun K.eq S.hash (RemoveIf key) (outcome_of (Err fault)) self.old.caller.seat.view self.new.caller.seat.view) }
-        ensures asked { HasAsked K.eq S.hash (TestSays (MayTest F.Fn test)) (RemoveIf key) self.old.caller.seat.view self.new.caller.seat.view }
+        ensures removed { IfOk result (λ removed. (answer : AnAnswer) × HasRun K.eq S.hash (RemoveIf (Q.stands_for key.now)) (outcome_of (Ok answer)) self.old.caller.seat.view self.new.caller.seat.view × (removed ≡ removes answer)) }
+        ensures refused { IfErr result (λ fault. HasRun K.eq S.hash (RemoveIf (Q.stands_for key.now)) (outcome_of (Err fault)) self.old.caller.seat.view self.new.caller.seat.view) }
+        ensures asked { HasAsked K.eq S.hash (TestSays (MayTest F.Fn test)) (RemoveIf (Q.stands_for key.now)) self.old.caller.seat.view self.new.caller.seat.view }
         ensures map { self.new.caller.seat.view.map ≡ self.old.caller.seat.view.map }
         ensures blocks { self.new.caller.blocks ≡ self.old.caller.blocks }
     {
-        let hash = self.hasher.hash_of(&key);
+        let hash = key.hash_by(self.hasher);
         let setting = setting_in(self.setting, self.slot);
-        let call = KeyCall::remove_if(setting, hash, key);
         let ran = self
             .caller
-            .removes_if(rt, self.hasher, Machine::Key(call), &test);
+            .removes_if(rt, self.hasher, setting, hash, key, &test);
         match told_of(ran) {
             Ok(answer) => Ok(is_removed(&answer)),
             Err(fault) => Err(fault),

@@ -74,7 +74,11 @@ impl<'a, K: Eq + Hash + Drop, V: Drop, S: Hashes<K>> SessionBase<'a, K, V, S> {
 
     /// Removes the pair of a key within the section of its slot, and answers with that, if there was one: it is there until the session takes its next step. The faults are
     /// `Memory` and `Capacity`: no pair was removed then. What was removed is reclaimed once no section that had begun before holds it.
-    pub fn remove<R: Wait, Q: Form<K, S>>(&mut self, rt: &R, key: &Q) -> Result<Option<Found>, Fault>
+    pub fn remove<R: Wait, Q: Form<K, S>>(
+        &mut self,
+        rt: &R,
+        key: &Q,
+    ) -> Result<Option<Found>, Fault>
         requires inside { self.old.caller.seat.view.slot ≡ Inside self.old.slot Nothing }
         ensures inside { self.new.caller.seat.view.slot ≡ Inside self.new.slot Nothing }
         ensures slot { self.new.slot ≡ self.old.slot }

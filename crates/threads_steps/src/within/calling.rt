@@ -12,7 +12,7 @@ ghost use Rattle.threads_rule.specs.Views.Rule.{MayWant, section_of};
 ghost use Rattle.threads_rule.specs.declared.view.Map.{Map};
 ghost use Rattle.threads_rule.specs.declared.view.SeatWork.TheVariants.{Nothing as NoWork};
 
-use crate::turns::{Beginning, Stepping, Wants};
+use crate::turns::Stepping;
 use crate::waiting::{Sleepers, Waiter};
 use crate::within::Within;
 use map_tables::{Equivalent, Hashes, Node};
@@ -62,7 +62,7 @@ impl<'a, K: Eq + Hash + Drop, V: Drop, S: Hashes<K>> Within<'a, K, V, S> {
     }
 
     /// Takes the next step of its call, whichever that is, and with whichever form of a key it is asked.
-    fn steps_by<Q: Equivalent<K>>(
+    pub(super) fn steps_by<Q: Equivalent<K>>(
         &mut self,
         machine: &mut Machine<K, V, Q>,
         hasher: &S,
@@ -158,18 +158,6 @@ impl<'a, K: Eq + Hash + Drop, V: Drop, S: Hashes<K>> Within<'a, K, V, S> {
         unreachable!()
     }
 
-    /// Begins this call, as it is picked.
-    fn begins_as<B: Wants<K, V>>(&mut self, _machine: &Machine<K, V>)
-        requires wanted { B.wanted ≡ wanted_of _machine.now }
-        requires inside { (t : ℕ) × (section_of self.old.seat.now.view.under self.old.seat.now.view.slot ≡ Some t) }
-        requires knows { (map : Map S) × (self.old.seat.now.view.map ≡ Some map) × MayWant K.eq S.hash self.old.seat.now.view.under map (wanted_of _machine.now) }
-        requires free { self.old.seat.now.view.work ≡ NoWork }
-        ensures begins { Begins K.eq S.hash (wanted_of _machine.now) self.old.seat.now.view self.new.seat.now.view }
-        ensures same { IsSameSeat self.old self.new }
-    {
-        self.blocks.turn::<Beginning<B>>(&mut *self.seat);
-    }
-
     /// Begins this call on the map that it knows, within its section.
     pub fn begins(&mut self, machine: &Machine<K, V>)
         requires inside { (t : ℕ) × (section_of self.old.seat.now.view.under self.old.seat.now.view.slot ≡ Some t) }
@@ -178,7 +166,7 @@ impl<'a, K: Eq + Hash + Drop, V: Drop, S: Hashes<K>> Within<'a, K, V, S> {
         ensures begins { Begins K.eq S.hash (wanted_of machine.now) self.old.seat.now.view self.new.seat.now.view }
         ensures same { IsSameSeat self.old self.new }
     {
-        self.begins_as::<Brand>(machine);
+        self.begins_on_as::<Brand, Machine<K, V>>(machine);
     }
 
     /// Runs this call, which asks nothing, on the map that it knows.
