@@ -41,7 +41,7 @@ fn with(bits: u64, next: bool) -> u64 {
 fn stores<R: Wait>(rt: &R, mut session: Own<'_>, value: u64) -> Told<u64> {
     let mut replaced = 0u64;
     for key in 0..KEYS {
-        replaced = with(replaced, session.insert(rt, key, value)?);
+        replaced = with(replaced, session.insert(rt, key, value)?.is_some());
     }
     Ok(replaced)
 }
@@ -50,7 +50,7 @@ fn stores<R: Wait>(rt: &R, mut session: Own<'_>, value: u64) -> Told<u64> {
 fn tries<R: Wait>(rt: &R, mut session: Own<'_>, value: u64) -> Told<u64> {
     let mut stored = 0u64;
     for key in 0..KEYS {
-        let tried = session.try_insert(rt, key, value)?;
+        let (_, tried) = session.try_insert(rt, key, value)?;
         stored = with(stored, matches!(tried, Attempt::Stored));
     }
     Ok(stored)
@@ -60,7 +60,7 @@ fn tries<R: Wait>(rt: &R, mut session: Own<'_>, value: u64) -> Told<u64> {
 fn removes<R: Wait>(rt: &R, mut session: Own<'_>) -> Told<u64> {
     let mut removed = 0u64;
     for key in 0..KEYS {
-        removed = with(removed, session.remove(rt, &key)?);
+        removed = with(removed, session.remove(rt, &key)?.is_some());
         session.refresh();
     }
     Ok(removed)

@@ -113,7 +113,12 @@ impl<'m, K: Eq + Hash + Drop, V: Drop, S: Hashes<K>> Session<'m, K, V, S> {
 
     /// Stores a pair, also in the place of one of an equal key, and names that one, if there was one: `value` and `pair` lend it until the next call. The faults are
     /// `Fault::Capacity` and `Fault::Memory`; then the pair was not stored, and key and value come back.
-    pub fn insert<R: Wait>(&mut self, rt: &R, key: K, value: V) -> Result<Option<Found>, Refused<K, V>>
+    pub fn insert<R: Wait>(
+        &mut self,
+        rt: &R,
+        key: K,
+        value: V,
+    ) -> Result<Option<Found>, Refused<K, V>>
         ensures keeps { KeepsMap self.old self.new }
         ensures stored { IfOk result (λ old. MapCameToHave K.eq S.hash key value (is_some old) self.old.base.caller self.new.base.caller) }
         ensures replaced { IfOk result (λ old. HasReplaced K.eq S.hash key value (option_map (λ found. found.word) old) self.old.base.caller.seat.view self.new.base.caller.seat.view) }
