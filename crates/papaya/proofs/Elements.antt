@@ -1,5 +1,5 @@
 -- The element of a pair that a map's lookup has lent.
-use Rattle.std.specs.Prelude.{Option, Some, None, Result, Ok, IfOk, option_map}
+use Rattle.std.specs.Prelude.{Option, Some, None, Result, Ok, IfOk, is_none, is_some, not, option_map}
 use Rattle.std.proofs.Common.{◌≡◌, ◌∙◌, ℕ, Bool, refl, subst}
 use Rattle.papaya.specs.OneSet.{SetLentUnder}
 use Rattle.papaya_map.specs.Given.SessionsUnder.{HasGotPairUnder}
@@ -11,6 +11,11 @@ use Rattle.papaya_map.specs.Given.CallersDeclared.caller.MapCaller.{MapCaller}
 keys : {A K V : Type 0} (now : A → K × V) (answer : Option A) → option_map (λ a. (now a).0) answer ≡ option_map (λ p. p.0) (option_map now answer)
 keys now None = refl
 keys now (Some a) = refl
+
+-- there is none where none is told of
+pub none_is : {A : Type 0} (told : Option A) → is_none told ≡ not (is_some told)
+none_is None = refl
+none_is (Some a) = refl
 
 module _ {K S : Type 0} (same : K → K → Bool) (hash : S → K → ℕ) (key : K) (c : MapCaller K (Unit {0}) S) (v w : View K (Unit {0}) S) where
   -- the element of what was found,

@@ -13,9 +13,9 @@ mod shared;
 
 pub use builder::HashSetBuilder;
 pub use papaya_map::{
-    Attempt, Collector, ComputedPair, Equivalent, Fault, Form, Given, HashMap, HashMapBuilder,
-    HashMapRef, IdSource, Onlooker, Operation, Own, Pass, Refused, Registration, ResizeMode,
-    Session, SharedMap,
+    Attempt, Collector, ComputedPair, Equivalent, Fault, Form, Found, Given, HashMap,
+    HashMapBuilder, HashMapRef, IdSource, Onlooker, Operation, Own, Pass, Refused, Registration,
+    ResizeMode, Session, SharedMap,
 };
 pub use pin::HashSetRef;
 pub use registration::SetRegistration;

@@ -11,5 +11,5 @@ pub use seize_words::Operation;
 pub use session::Session;
 pub use threads_sweeps::Onlooker;
 pub use threads_updates::{
-    Attempt, ComputedPair, Fixed, Form, OfMaps, SessionBase, Sleepers, memory_for, newcomer,
+    Attempt, ComputedPair, Fixed, Form, Found, OfMaps, SessionBase, Sleepers, memory_for, newcomer,
 };

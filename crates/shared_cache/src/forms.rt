@@ -4,14 +4,14 @@ use map_forms::Text;
 use papaya_map::{Fault, HashMap, IdSource, Session};
 use std::alloc::Global;
 use std::sync::Wait;
-use std::test::Fail;
 use std::thread::{self, Threads};
 
 type Own<'m> = Session<'m, Text, u64, Hashing>;
 
 /// Stores this text with its length.
 fn stores<R: Wait>(rt: &R, alloc: Global, mut own: Own<'_>, text: &str) -> Result<bool, Fault> {
-    Ok(own.insert(rt, Text::new(alloc, text)?, text.len() as u64)?)
+    let old = own.insert(rt, Text::new(alloc, text)?, text.len() as u64)?;
+    Ok(old.is_some())
 }
 
 /// What a session finds of these texts.
@@ -51,10 +51,8 @@ fn both<R: Threads + Wait + Sync>(
     Ok((found, [there, pinned, passed]))
 }
 
-#[test]
-fn a_text_is_found_by_a_lent_one(rt: HostRuntime) -> Result<(), Fail> {
-    let (found, there) = both(&rt, rt.alloc(), ["cod", "pike", "perch"])?;
-    assert_eq!(rt; found, [Some(3), Some(4), None]);
-    assert_eq!(rt; there, [true, true, true]);
-    Ok(())
+/// Whether what two threads have stored at texts is found by lent ones, and nothing at a third.
+pub(crate) fn are_found<R: Threads + Wait + Sync>(rt: &R, alloc: Global) -> Result<bool, Fault> {
+    let (found, there) = both(rt, alloc, ["cod", "pike", "perch"])?;
+    Ok(found == [Some(3), Some(4), None] && there == [true, true, true])
 }
