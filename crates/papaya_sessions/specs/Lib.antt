@@ -7,3 +7,4 @@ pub mod Lent
 pub mod OneMap
 pub mod Sessions
 pub mod Under
+pub mod Walked
