@@ -1,3 +1,4 @@
 pub mod Extended
 mod OneMap
 mod Under
+mod Walked

@@ -1,5 +1,5 @@
 -- What a walk by steps has done: which keys a session has listed by what a walk has told it, and how far one has come that looks listed keys up.
-use Rattle.std.specs.Prelude.{◌≡◌, ◌⊎◌, ◌++◌, ◌∷◌, ℕ, Bool, false, List, [], Option, Some, None, IsSome}
+use Rattle.std.specs.Prelude.{◌≡◌, ◌⊎◌, ◌++◌, ◌∷◌, ℕ, Bool, false, List, [], Option, None, IsSome}
 use Rattle.std.specs.List.{AllZip}
 use Rattle.papaya_sessions.specs.OneMap.{MapWasShown, WasRefused}
 use Rattle.papaya_sessions.specs.Under.{HasGotPairUnder}
@@ -28,8 +28,7 @@ module _ {K V S : Type 0} (same : K → K → Bool) (hash : S → K → ℕ) whe
 
   -- Of these keys it has looked the first one up, under that session, and was lent its pair; or the map had none, and so it went on with the others; or there was no key left.
   abbrev pub GoesOn : {Q : Type 0} → (Q → K) → MapCaller K V S → Option (K × V) → List Q → View K V S → List Q → View K V S → Type 0
-  GoesOn stands c None [] v rest w = (rest ≡ []) × (w ≡ v)
-  GoesOn stands c (Some pair) [] v rest w = ⊥
+  GoesOn stands c found [] v rest w = (found ≡ None) × (rest ≡ []) × (w ≡ v)
   GoesOn stands c found (key ∷ keys) v rest w =
       (IsSome found × HasGotPairUnder same hash (stands key) c found v w × (rest ≡ keys))
       ⊎ ((u : View K V S) × HasGotPairUnder same hash (stands key) c None v u × GoesOn stands c found keys u rest w)

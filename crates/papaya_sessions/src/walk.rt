@@ -18,7 +18,7 @@ use threads_updates::Form;
 
 /// Clones of the keys of which a walk has told so far, and whether memory was refused to one.
 #[derive(Drop)]
-struct Keys<K> {
+struct Listing<K> {
     keys: Vec<K>,
     refused: bool,
 }
@@ -32,7 +32,7 @@ fn put_clone<K: Clone + Drop>(keys: &mut Vec<K>, key: &K) -> Result<(), AllocErr
     Ok(())
 }
 
-impl<K: Clone + Drop, V> Onlooker<K, V> for Keys<K> {
+impl<K: Clone + Drop, V> Onlooker<K, V> for Listing<K> {
     ghost may_see = { λ listed. Unit {0} };
 
     ghost has_seen = { λ listed key value n. PutsClone K.is_clone key listed.refused listed.keys.items n.refused n.keys.items };
@@ -49,11 +49,11 @@ impl<K: Clone + Drop, V> Onlooker<K, V> for Keys<K> {
 }
 
 /// The keys that are listed, or `Fault::Memory`, where that was refused to one.
-fn listed<K: Drop>(told: Keys<K>) -> Result<Vec<K>, Fault>
+fn listed<K: Drop>(told: Listing<K>) -> Result<Vec<K>, Fault>
     ensures all { IfOk result (λ keys. (told.refused ≡ false) × (keys.items ≡ told.keys.items)) }
     ensures fault { IfErr result (λ fault. fault ≡ Memory) }
 {
-    let Keys { keys, refused } = told;
+    let Listing { keys, refused } = told;
     if refused {
         Err(Fault::Memory)
     } else {
@@ -69,7 +69,7 @@ impl<'m, K: Eq + Hash + Clone + Drop, V: Drop, S: Hashes<K>> Session<'m, K, V, S
         ensures listed { IfOk result (λ keys. HasListed K.eq S.hash K.is_clone keys.items self.old.base.caller self.new.base.caller) }
         ensures refused { IfErr result (λ fault. WasNotListed K.eq S.hash fault self.old.base.caller self.new.base.caller) }
     {
-        let none = Keys {
+        let none = Listing {
             keys: Vec::new(alloc),
             refused: false,
         };
