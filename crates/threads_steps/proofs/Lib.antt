@@ -1,5 +1,6 @@
 pub mod Tellings
 mod Calls
+mod Holders
 pub mod Calling
 mod Forms
 mod Lookups
