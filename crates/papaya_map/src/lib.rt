@@ -10,7 +10,7 @@ pub use builder::{Given, HashMapBuilder, Own};
 pub use map::HashMap;
 pub use map_tables::{Equivalent, ResizeMode};
 pub use papaya_sessions::{
-    Attempt, ComputedPair, Form, HashMapRef, Onlooker, Operation, Pass, Registration, Session,
+    Attempt, ComputedPair, Form, HashMapRef, Onlooker, Operation, Pass, Registration, Session, Walk,
 };
 pub use seize::{Collector, IdSource};
 pub use seize_words::{Fault, Refused};

@@ -1,6 +1,6 @@
 //! Walks by steps: a session lists clones of the keys that a walk tells, and lends the pairs of listed keys, one after another.
-ghost use Rattle.std.specs.Prelude.{◌≡◌, ◌∷◌, ◌++◌, [], false, IfErr, IfOk, OnOk, option_map};
-ghost use Rattle.std.specs.Vec.Iter.{into_iter_items};
+ghost use Rattle.std.specs.Prelude.{◌≡◌, ◌<◌, ◌∷◌, ◌++◌, [], false, IfErr, IfOk, IfSome, OnOk, option_map};
+ghost use Rattle.std.specs.Vec.Iter.{into_iter_items, into_iter_len};
 ghost use Rattle.papaya_sessions.specs.Kept.{KeepsMap};
 ghost use Rattle.papaya_sessions.specs.Walked.{GoesOn, HasListed, PutsClone, WasNotListed};
 ghost use Rattle.seize_words.specs.declared.fault.Fault.TheVariants.{Memory};
@@ -114,6 +114,7 @@ impl<'g, 'm, K: Eq + Hash + Drop, V: Drop, Q: Form<K, S> + Drop, S: Hashes<K>> W
     /// Looks the next key up, and those after it where the map has no pair of that, and lends the pair of the first one that it has, or none, if it has come to the end of the list.
     pub fn next<R: Wait>(&mut self, rt: &R) -> Option<(&'g K, &'g V)>
         ensures session { self.new.pin.session ≡ self.old.pin.session }
+        ensures fewer { IfSome result (λ _. into_iter_len self.new.keys < into_iter_len self.old.keys) }
         ensures next { GoesOn K.eq S.hash Q.stands_for self.old.pin.session.now.base.caller (option_map (λ pair. (pair.0.now, pair.1.now)) result)
             (into_iter_items self.old.keys) self.old.pin.pass.base.seat.view (into_iter_items self.new.keys) self.new.pin.pass.base.seat.view }
     {

@@ -1,6 +1,6 @@
 use Rattle.std.specs.Prelude.{None, Some, option_map}
 use Rattle.std.specs.Vec.Iter.{into_iter_items}
-use Rattle.std.proofs.Common.{◌∙◌, refl, subst}
+use Rattle.std.proofs.Common.{◌∙◌, arith, refl, subst}
 use Rattle.papaya_sessions.proofs.Walked.{was_lent, went_on}
 use Rattle.papaya_sessions.specs.Under.{HasGotPairUnder}
 use Rattle.papaya_sessions.proofs.walk.Walk.next.Goals as goal
@@ -13,6 +13,7 @@ loop-key-preserved g c =
     (subst (λ r. HasGotPairUnder g.K.PartialEq.eq g.S.Hashes.hash stands x.pin.session.now.base.caller (option_map (λ pair. (pair.0.now, pair.1.now)) r) x.pin.pass.base.seat.view
     y.new.self.pass.base.seat.view) c.in_default-get_key_value.is y.ensures.got) in record {
       session = y.ensures.session ∙ c.loop-key.invariant.session;
+      shorter = omega (arith, c.in-Some.ensures.len, c.loop-key.invariant.shorter);
       goes = λ found rest w on. c.loop-key.invariant.goes found rest w
           (went_on g.K.PartialEq.eq g.S.Hashes.hash g.Q.Equivalent.stands_for c.args.self.now.pin.session.now.base.caller (into_iter_items x.keys) (into_iter_items c.next.new.self) c.in-Some.key
           c.in-Some.ensures.items x.pin.pass.base.seat.view y.new.self.pass.base.seat.view w found rest missed on);
