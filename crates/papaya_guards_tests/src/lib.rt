@@ -4,6 +4,4 @@
 #[cfg(test)]
 mod foreign;
 #[cfg(test)]
-mod lending;
-#[cfg(test)]
 mod passing;

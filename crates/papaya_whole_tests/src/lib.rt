@@ -2,6 +2,6 @@
 #![tactic(auto)]
 
 #[cfg(test)]
-mod sweeping;
+mod meeting;
 #[cfg(test)]
 mod whole;
