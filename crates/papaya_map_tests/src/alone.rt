@@ -74,7 +74,8 @@ fn walks<R: Wait>(rt: &R, alloc: Global, map: &mut Own<'_>) -> Told<[bool; 6]> {
     map.clear(rt)?;
     let stored = map.extend(rt, [(1, 10), (2, 20), (3, 30)]).is_ok();
     let keys = map.keys(rt, alloc)?;
-    let three = keys.len() == 3 && map.remove(rt, 2)? && map.insert(rt, 3, 31)?;
+    let three = keys.len() == 3 && map.update(rt, &3, |_| 31)?;
+    map.retain(rt, |key, _| *key != 2)?;
     let mut walk = map.walk(keys);
     let (one, other, none) = (walk.next(rt), walk.next(rt), walk.next(rt));
     let mut again = map.walk(vec![in alloc; 3, 9, 1]?);
