@@ -12,7 +12,7 @@ pub use map::HashMap;
 pub use map_tables::{Equivalent, ResizeMode};
 pub use papaya_sessions::{
     Attempt, ComputedPair, Form, Found, HashMapRef, Onlooker, Operation, Pass, Registration,
-    Session,
+    Session, Walk,
 };
 pub use seize::{Collector, IdSource};
 pub use seize_words::{Fault, Refused};

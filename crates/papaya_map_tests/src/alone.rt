@@ -1,6 +1,7 @@
 //! What the calls of one session on a key answer, one after another, in a map of each mode.
 use crate::storing::{MODES, Map, Own, Told, made, more};
 use papaya_map::{Attempt, ComputedPair, Fault, Operation};
+use std::alloc::Global;
 use std::sync::Wait;
 use std::sync::atomic::AtomicU64;
 use std::sync::atomic::Ordering::SeqCst;
@@ -78,22 +79,46 @@ fn computes<R: Wait>(rt: &R, map: &mut Own<'_>) -> Told<[bool; 9]> {
     ])
 }
 
-/// All that, of one session.
-fn says<R: Wait>(rt: &R, map: &Map) -> Told<[[bool; 9]; 3]> {
-    let mut session = map.session()?;
+/// Where three keys are listed, one of which is removed then, and another one's value replaced: a walk over them by steps, and one over keys of which the map has two.
+fn walks<R: Wait>(rt: &R, alloc: Global, map: &mut Own<'_>) -> Told<[bool; 6]> {
+    map.clear(rt)?;
+    let stored = map.extend(rt, [(1, 10), (2, 20), (3, 30)]).is_ok();
+    let keys = map.keys(rt, alloc)?;
+    let three = keys.len() == 3 && map.update(rt, &3, |_| 31)?;
+    map.retain(rt, |key, _| *key != 2)?;
+    let mut walk = map.walk(keys);
+    let (one, other, none) = (walk.next(rt), walk.next(rt), walk.next(rt));
+    let mut again = map.walk(vec![in alloc; 3, 9, 1]?);
     Ok([
+        stored && three,
+        matches!(
+            (one, other),
+            (Some((1, 10)), Some((3, 31))) | (Some((3, 31)), Some((1, 10)))
+        ),
+        none.is_none(),
+        matches!(again.next(rt), Some((3, 31))),
+        matches!(again.next(rt), Some((1, 10))),
+        again.next(rt).is_none(),
+    ])
+}
+
+/// All that, of one session.
+fn says<R: Wait>(rt: &R, alloc: Global, map: &Map) -> Told<([[bool; 9]; 3], [bool; 6])> {
+    let mut session = map.session()?;
+    let said = [
         stores(rt, &mut session)?,
         asks(rt, &mut session)?,
         computes(rt, &mut session)?,
-    ])
+    ];
+    Ok((said, walks(rt, alloc, &mut session)?))
 }
 
 #[test]
 fn each_call_answers_what_is_there(rt: HostRuntime) -> Result<(), Fail> {
     for mode in MODES {
         let map = made(rt.alloc(), mode)?;
-        let said = says(&rt, &map)?;
-        assert_eq!(rt; said, [[true; 9]; 3]);
+        let said = says(&rt, rt.alloc(), &map)?;
+        assert_eq!(rt; said, ([[true; 9]; 3], [true; 6]));
     }
     Ok(())
 }

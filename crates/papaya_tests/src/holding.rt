@@ -73,7 +73,7 @@ fn sum<R: Wait>(rt: &R, set: &mut Own<'_>) -> Told<u64> {
 }
 
 /// What a session says of a set of three keys, of which it lets one go, and of as many as it has then.
-fn three<R: Wait>(rt: &R, set: &mut Own<'_>) -> Told<[bool; 10]> {
+fn three<R: Wait>(rt: &R, alloc: Global, set: &mut Own<'_>) -> Told<[bool; 12]> {
     Ok([
         matches!(set.reserve(rt, u64::MAX), Err(Fault::Capacity)),
         set.reserve(rt, 100).is_ok(),
@@ -81,6 +81,8 @@ fn three<R: Wait>(rt: &R, set: &mut Own<'_>) -> Told<[bool; 10]> {
         set.pin().get(rt, &38).copied() == Some(38),
         set.len() == 3,
         sum(rt, set)? == 96,
+        set.elements(rt, alloc)?.len() == 3,
+        matches!(set.walk(vec![in alloc; 9, 38]?).next(rt), Some(38)),
         set.retain(rt, |key| *key != 16).is_ok(),
         !set.contains(rt, &16),
         sum(rt, set)? == 80,
@@ -118,9 +120,13 @@ fn both<R: Threads + Wait + Sync>(rt: &R, set: &Set) -> Told<[u64; 3]> {
 }
 
 /// All that, of one set.
-fn says<R: Threads + Wait + Sync>(rt: &R, set: &Set) -> Told<([bool; 10], [bool; 10], [u64; 3])> {
+fn says<R: Threads + Wait + Sync>(
+    rt: &R,
+    alloc: Global,
+    set: &Set,
+) -> Told<([bool; 10], [bool; 12], [u64; 3])> {
     let mut session = set.session()?;
-    let (one, three) = (one(rt, &mut session)?, three(rt, &mut session)?);
+    let (one, three) = (one(rt, &mut session)?, three(rt, alloc, &mut session)?);
     Ok((one, three, both(rt, set)?))
 }
 
@@ -130,8 +136,8 @@ fn a_set_has_what_it_was_left_and_says_so(rt: HostRuntime) -> Result<(), Fail> {
     assert_eq!(rt; reasons(rt.alloc(), hasher, other)?, [true; 6]);
     for mode in MODES {
         let set = built(rt.alloc(), RandomState::new(&rt)?, mode)?;
-        let said = says(&rt, &set)?;
-        assert_eq!(rt; said, ([true; 10], [true; 10], [u64::MAX, u64::MAX, 0]));
+        let said = says(&rt, rt.alloc(), &set)?;
+        assert_eq!(rt; said, ([true; 10], [true; 12], [u64::MAX, u64::MAX, 0]));
     }
     Ok(())
 }

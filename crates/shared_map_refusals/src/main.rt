@@ -175,6 +175,19 @@ fn tests<R: Wait>(
     removed && !session.contains_key(rt, &key)
 }
 
+/// Lists the keys, and tells whether as many were listed as there are.
+fn lists<R: Wait>(
+    rt: &R,
+    alloc: Global,
+    session: &mut Session<'_, u64, u64, Hashing>,
+) -> Result<bool, Fault> {
+    let keys = match session.keys(rt, alloc) {
+        Err(Fault::Memory) => session.keys(rt, alloc)?,
+        answer => answer?,
+    };
+    Ok(u64::try_from(keys.len()) == Ok(session.len()))
+}
+
 /// Makes the values of all keys in a map that was built, and removes each; tells whether each time all was as it should be.
 fn asks<R: Wait>(rt: &R, alloc: Global) -> Result<bool, Fault> {
     let map = built(alloc)?;
@@ -184,6 +197,7 @@ fn asks<R: Wait>(rt: &R, alloc: Global) -> Result<bool, Fault> {
         are_there = makes(rt, &mut session, key, key) && are_there;
         session.refresh();
     }
+    are_there = lists(rt, alloc, &mut session)? && are_there;
     for key in 0..KEYS {
         are_there = tests(rt, &mut session, key, key) && are_there;
         session.refresh();
