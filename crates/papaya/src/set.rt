@@ -14,7 +14,7 @@ use std::hash::{Hash, RandomState};
 /// Who owns it begins a session, and gives each thread one: `session`, and `SetSession::another`. With the set its elements are dropped.
 #[derive(Drop)]
 pub struct HashSet<K: Eq + Hash + Drop, S: Hashes<K> = RandomState> {
-    map: HashMap<K, (), S>,
+    pub(crate) map: HashMap<K, (), S>,
 }
 
 impl<K: Eq + Hash + Drop, S: Hashes<K>> HashSet<K, S> {

@@ -29,7 +29,7 @@ fn removes<R: Wait>(rt: &R, map: &Lent<'_>, from: u64) -> Told<u64> {
     let mut session = map.session()?;
     let mut removed = 0u64;
     for n in 0..EACH {
-        let there = session.remove(rt, &u64::wrapping_add(from, n))?;
+        let there = session.remove(rt, &u64::wrapping_add(from, n))?.is_some();
         removed = u64::wrapping_add(removed, u64::from(there));
     }
     Ok(removed)

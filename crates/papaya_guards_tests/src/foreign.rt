@@ -61,8 +61,8 @@ fn stores<R: Wait>(rt: &R, alloc: Global) -> Told<[bool; 12]> {
         is_foreign(map.update_or_insert_with(rt, &1, |value| *value, || 2, &mut strange)),
         is_foreign(map.compute(rt, &1, |_| Operation::Insert::<u64, ()>(2), &mut strange)),
         !strange.contains_key(rt, &1),
-        matches!(map.insert(rt, 1, 2, &mut guard), Ok(false)),
-        matches!(map.remove(rt, &1, &mut guard), Ok(true)),
+        matches!(map.insert(rt, 1, 2, &mut guard), Ok(None)),
+        matches!(map.remove(rt, &1, &mut guard), Ok(Some(_))),
     ])
 }
 

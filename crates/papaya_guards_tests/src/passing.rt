@@ -22,7 +22,7 @@ pub(crate) type Hashing = BuildHasherDefault<DefaultHasher>;
 
 type Map<'m> = SharedMap<'m, u64, u64, Hashing>;
 
-type Guard<'m> = Session<'m, u64, u64, Hashing>;
+pub(crate) type Guard<'m> = Session<'m, u64, u64, Hashing>;
 
 type Seat = Pass<u64, u64, Hashing>;
 

@@ -1,3 +1,4 @@
 pub mod Below
 mod Builders
+mod Cloned
 mod Homes

@@ -1,2 +1,3 @@
 pub mod Builders
+pub mod Cloned
 pub mod Given

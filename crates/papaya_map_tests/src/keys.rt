@@ -44,7 +44,7 @@ fn with(bits: u64, next: bool) -> u64 {
 fn stores<R: Wait>(rt: &R, mut session: Own<'_>, value: u64) -> Told<u64> {
     let mut replaced = 0u64;
     for key in 0..KEYS {
-        replaced = with(replaced, session.insert(rt, key, value)?);
+        replaced = with(replaced, session.insert(rt, key, value)?.is_some());
     }
     Ok(replaced)
 }
@@ -53,7 +53,7 @@ fn stores<R: Wait>(rt: &R, mut session: Own<'_>, value: u64) -> Told<u64> {
 fn tries<R: Wait>(rt: &R, mut session: Own<'_>, value: u64) -> Told<u64> {
     let mut stored = 0u64;
     for key in 0..KEYS {
-        let tried = session.try_insert(rt, key, value)?;
+        let (_, tried) = session.try_insert(rt, key, value)?;
         stored = with(stored, matches!(tried, Attempt::Stored));
     }
     Ok(stored)
@@ -63,7 +63,7 @@ fn tries<R: Wait>(rt: &R, mut session: Own<'_>, value: u64) -> Told<u64> {
 fn removes<R: Wait>(rt: &R, mut session: Own<'_>) -> Told<u64> {
     let mut removed = 0u64;
     for key in 0..KEYS {
-        removed = with(removed, session.remove(rt, &key)?);
+        removed = with(removed, session.remove(rt, &key)?.is_some());
         session.refresh();
     }
     Ok(removed)
@@ -115,18 +115,28 @@ fn change<R: Threads + Wait + Sync>(rt: &R, map: &Map) -> Told<[u64; 7]> {
     ])
 }
 
+/// The value that a pair was stored in the place of, and the one that is there where it is to be stored if the key is missing.
+fn replaces<R: Wait>(rt: &R, map: &mut Own<'_>) -> Told<(Option<u64>, u64)> {
+    let replaced = match map.insert(rt, 42, 1)? {
+        Some(old) => Some(*map.value(old)),
+        None => None,
+    };
+    let (there, tried) = map.try_insert(rt, 42, 2)?;
+    let back = matches!(tried, Attempt::Present(42, 2));
+    Ok((replaced, if back { *map.pair(there).1 } else { 2 }))
+}
+
 /// Where the key is missing, stored, replaced and removed.
-fn keeps<R: Wait>(rt: &R, map: &mut Own<'_>) -> Told<[bool; 10]> {
+fn keeps<R: Wait>(rt: &R, map: &mut Own<'_>) -> Told<[bool; 9]> {
     Ok([
         map.pin().get_key_value(rt, &42).is_none(),
-        !map.remove(rt, &42)?,
+        map.remove(rt, &42)?.is_none(),
         !map.update(rt, &42, more)?,
         !map.remove_if(rt, &42, |_, _| true)?,
-        !map.insert(rt, 42, 0)?,
-        map.insert(rt, 42, 1)?,
+        map.insert(rt, 42, 0)?.is_none(),
+        replaces(rt, map)? == (Some(0), 1),
         map.get(rt, &42).copied() == Some(1),
-        matches!(map.try_insert(rt, 42, 2)?, Attempt::Present(42, 2)),
-        map.remove(rt, &42)?,
+        map.remove(rt, &42)?.copied() == Some(1),
         map.get(rt, &42).is_none(),
     ])
 }
@@ -177,11 +187,38 @@ fn computes<R: Wait>(rt: &R, map: &mut Own<'_>) -> Told<[bool; 9]> {
     ])
 }
 
+/// Where three keys are listed, one of which is removed then, and another one's value replaced: a walk over them by steps, and one over keys of which the map has two.
+fn walks<R: Wait>(rt: &R, alloc: Global, map: &mut Own<'_>) -> Told<[bool; 6]> {
+    map.clear(rt)?;
+    let stored = map.extend(rt, [(1, 10), (2, 20), (3, 30)]).is_ok();
+    let keys = map.keys(rt, alloc)?;
+    let three = keys.len() == 3 && map.update(rt, &3, |_| 31)?;
+    map.retain(rt, |key, _| *key != 2)?;
+    let mut walk = map.walk(keys);
+    let (one, other, none) = (walk.next(rt), walk.next(rt), walk.next(rt));
+    let mut again = map.walk(vec![in alloc; 3, 9, 1]?);
+    Ok([
+        stored && three,
+        matches!(
+            (one, other),
+            (Some((1, 10)), Some((3, 31))) | (Some((3, 31)), Some((1, 10)))
+        ),
+        none.is_none(),
+        matches!(again.next(rt), Some((3, 31))),
+        matches!(again.next(rt), Some((1, 10))),
+        again.next(rt).is_none(),
+    ])
+}
+
 /// All that, of one session.
-fn says<R: Wait>(rt: &R, map: &Map) -> Told<([bool; 10], [bool; 9], [bool; 9])> {
+fn says<R: Wait>(rt: &R, alloc: Global, map: &Map) -> Told<([[bool; 9]; 3], [bool; 6])> {
     let mut session = map.session()?;
-    let (kept, asked) = (keeps(rt, &mut session)?, asks(rt, &mut session)?);
-    Ok((kept, asked, computes(rt, &mut session)?))
+    let said = [
+        keeps(rt, &mut session)?,
+        asks(rt, &mut session)?,
+        computes(rt, &mut session)?,
+    ];
+    Ok((said, walks(rt, alloc, &mut session)?))
 }
 
 // Of two calls on a key one comes first, whoever is faster. A body that served one thread after the other would pass, too.
@@ -189,8 +226,8 @@ fn says<R: Wait>(rt: &R, map: &Map) -> Told<([bool; 10], [bool; 9], [bool; 9])> 
 fn each_call_on_a_key_answers_what_is_there(rt: HostRuntime) -> Result<(), Fail> {
     for mode in MODES {
         let map = made(rt.alloc(), mode)?;
-        let (said, changed) = (says(&rt, &map)?, change(&rt, &map)?);
-        assert_eq!(rt; said, ([true; 10], [true; 9], [true; 9]));
+        let (said, changed) = (says(&rt, rt.alloc(), &map)?, change(&rt, &map)?);
+        assert_eq!(rt; said, ([[true; 9]; 3], [true; 6]));
         assert_eq!(rt; changed, [u64::MAX; 7]);
     }
     Ok(())

@@ -1,3 +1,5 @@
+mod Compared
 pub mod Extended
 mod OneMap
 mod Under
+mod Walked

@@ -1,4 +1,5 @@
 pub mod Asked
+pub mod Compared
 pub mod Extended
 pub mod Given
 pub mod Homes
@@ -7,3 +8,4 @@ pub mod Lent
 pub mod OneMap
 pub mod Sessions
 pub mod Under
+pub mod Walked

@@ -6,9 +6,6 @@ use std::sync::Wait;
 use std::test::Fail;
 use std::thread::{self, Threads};
 
-/// How a set comes to its next tables.
-const MODES: [ResizeMode; 2] = [ResizeMode::Incremental(1), ResizeMode::Blocking];
-
 type Hashing = BuildHasherDefault<DefaultHasher>;
 
 type Set = HashSet<u64, Hashing>;
@@ -67,7 +64,7 @@ fn sum<R: Wait>(rt: &R, set: &mut Own<'_>) -> Told<u64> {
 }
 
 /// What a session says of a set of three keys, of which it lets one go, and of as many as it has then.
-fn three<R: Wait>(rt: &R, set: &mut Own<'_>) -> Told<[bool; 10]> {
+fn three<R: Wait>(rt: &R, alloc: Global, set: &mut Own<'_>) -> Told<[bool; 12]> {
     Ok([
         matches!(set.reserve(rt, u64::MAX), Err(Fault::Capacity)),
         set.reserve(rt, 100).is_ok(),
@@ -75,6 +72,8 @@ fn three<R: Wait>(rt: &R, set: &mut Own<'_>) -> Told<[bool; 10]> {
         set.pin().get(rt, &38).copied() == Some(38),
         set.len() == 3,
         sum(rt, set)? == 96,
+        set.elements(rt, alloc)?.len() == 3,
+        matches!(set.walk(vec![in alloc; 9, 38]?).next(rt), Some(38)),
         set.retain(rt, |key| *key != 16).is_ok(),
         !set.contains(rt, &16),
         sum(rt, set)? == 80,
@@ -109,23 +108,15 @@ fn both<R: Threads + Wait + Sync>(rt: &R, set: &Set, takes: bool) -> Told<u64> {
 }
 
 /// All that, of one set.
-fn says<R: Threads + Wait + Sync>(rt: &R, set: &Set) -> Told<([bool; 10], [bool; 10], [u64; 3])> {
+fn says<R: Threads + Wait + Sync>(
+    rt: &R,
+    alloc: Global,
+    set: &Set,
+) -> Told<([bool; 10], [bool; 12], [u64; 3])> {
     let mut session = set.session()?;
-    let (one, three) = (one(rt, &mut session)?, three(rt, &mut session)?);
+    let (one, three) = (one(rt, &mut session)?, three(rt, alloc, &mut session)?);
     let (new, taken) = (both(rt, set, false)?, both(rt, set, true)?);
     Ok((one, three, [new, taken, set.register()?.enter().len()]))
-}
-
-#[test]
-fn a_set_has_what_it_was_left_and_says_so(rt: HostRuntime) -> Result<(), Fail> {
-    let (hasher, other) = (RandomState::new(&rt)?, RandomState::new(&rt)?);
-    assert_eq!(rt; made(rt.alloc(), hasher, other), [true; 4]);
-    for mode in MODES {
-        let set = built(rt.alloc(), RandomState::new(&rt)?, mode)?;
-        let said = says(&rt, &set)?;
-        assert_eq!(rt; said, ([true; 10], [true; 10], [u64::MAX, u64::MAX, 0]));
-    }
-    Ok(())
 }
 
 /// Whether a call was refused what is of another set.
@@ -162,7 +153,16 @@ fn foreign<R: Wait>(rt: &R, alloc: Global) -> Told<[bool; 10]> {
 }
 
 #[test]
-fn a_set_refuses_what_is_of_another_one(rt: HostRuntime) -> Result<(), Fail> {
+fn a_set_has_what_it_was_left_and_refuses_what_is_of_another_one(
+    rt: HostRuntime,
+) -> Result<(), Fail> {
+    let (hasher, other) = (RandomState::new(&rt)?, RandomState::new(&rt)?);
+    assert_eq!(rt; made(rt.alloc(), hasher, other), [true; 4]);
     assert_eq!(rt; foreign(&rt, rt.alloc())?, [true; 10]);
+    for mode in [ResizeMode::Incremental(1), ResizeMode::Blocking] {
+        let set = built(rt.alloc(), RandomState::new(&rt)?, mode)?;
+        let said = says(&rt, rt.alloc(), &set)?;
+        assert_eq!(rt; said, ([true; 10], [true; 12], [u64::MAX, u64::MAX, 0]));
+    }
     Ok(())
 }

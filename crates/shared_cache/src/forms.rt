@@ -10,7 +10,8 @@ type Own<'m> = Session<'m, Text, u64, Hashing>;
 
 /// Stores this text with its length.
 fn stores<R: Wait>(rt: &R, alloc: Global, mut own: Own<'_>, text: &str) -> Result<bool, Fault> {
-    Ok(own.insert(rt, Text::new(alloc, text)?, text.len() as u64)?)
+    let old = own.insert(rt, Text::new(alloc, text)?, text.len() as u64)?;
+    Ok(old.is_some())
 }
 
 /// What a session finds of these texts.

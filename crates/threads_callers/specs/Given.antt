@@ -8,6 +8,7 @@ pub use Rattle.threads_errands.specs.Given.ErrandsCounting
 pub use Rattle.threads_errands.specs.Given.ErrandsLooking
 pub use Rattle.threads_errands.specs.Given.ErrandsSweeping
 pub use Rattle.threads_errands.specs.Given.Made
+pub use Rattle.threads_errands.specs.Given.OwnedOwned
 pub use Rattle.threads_errands.specs.Given.Steps
 pub use Rattle.threads_errands.specs.Given.StepsAsking
 pub use Rattle.threads_errands.specs.Given.ThreadsStepsDeclared

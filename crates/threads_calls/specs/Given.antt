@@ -7,6 +7,7 @@ pub use Rattle.threads_callers.specs.Given.ErrandsCalling
 pub use Rattle.threads_callers.specs.Given.ErrandsLooking
 pub use Rattle.threads_callers.specs.Given.ErrandsSweeping
 pub use Rattle.threads_callers.specs.Given.Made
+pub use Rattle.threads_callers.specs.Given.OwnedOwned
 pub use Rattle.threads_callers.specs.Given.Steps
 pub use Rattle.threads_callers.specs.Given.StepsAsking
 pub use Rattle.threads_callers.specs.Given.ThreadsStepsDeclared

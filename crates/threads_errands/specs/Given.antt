@@ -9,6 +9,7 @@ pub use Rattle.threads_steps.specs.Given.ErrandsCounting
 pub use Rattle.threads_steps.specs.Given.ErrandsLooking
 pub use Rattle.threads_steps.specs.Given.ErrandsMaking
 pub use Rattle.threads_steps.specs.Given.ErrandsSweeping
+pub use Rattle.threads_steps.specs.Given.OwnedOwned
 pub use Rattle.threads_steps.specs.Given.ViewsBegun
 pub use Rattle.threads_steps.specs.Given.ViewsDeclared
 pub use Rattle.threads_steps.specs.Given.ViewsLooks

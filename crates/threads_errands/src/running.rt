@@ -1,4 +1,4 @@
-//! A call of a seat on an errand from where it stands on: by steps, but for places that it copies.
+//! A call of a seat on an errand from where it stands on: by steps, but for places that it copies, and full batches that it tries.
 ghost use Rattle.std.specs.Prelude.{◌≡◌, ◌≢◌, Option, Some, None, IfOk};
 ghost use Rattle.map_tables.specs.declared.node.Node.{Node as AnyNode};
 ghost use Rattle.threads_steps.specs.Given.ByKey.{by_key, key_call};
@@ -34,7 +34,7 @@ pub(crate) fn stands<K: Eq + Hash, V, Q: Equivalent<K>, S: Hashes<K>>(
     ahead.stands(hasher, machine);
 }
 
-/// Copies places of the chunk that a call helps with, as far as straight code goes.
+/// Copies places of the chunk that a call helps with, or tries a full batch, as far as straight code goes.
 #[inline(always)]
 fn copies<K: Eq + Hash + Drop, V: Drop, Q: Equivalent<K>, S: Hashes<K>>(
     blocks: &Blocks<Node<K, V>, OfMaps<S>>,
@@ -56,7 +56,7 @@ fn copies<K: Eq + Hash + Drop, V: Drop, Q: Equivalent<K>, S: Hashes<K>>(
     ahead.helps(hasher, call);
 }
 
-/// Copies places of the chunk that the seat's call helps with, if it helps with one. The call stands behind them then.
+/// Copies places of the chunk that the seat's call helps with, or tries the batch that it has filled, if it stands there. The call stands behind that then.
 #[inline(always)]
 fn helps<K: Eq + Hash + Drop, V: Drop, Q: Equivalent<K>, S: Hashes<K>>(
     blocks: &Blocks<Node<K, V>, OfMaps<S>>,

@@ -2,6 +2,7 @@
 pub use Rattle.threads_calls.specs.Answers as CallsAnswers
 pub use Rattle.threads_calls.specs.Given.CallersDeclared
 pub use Rattle.threads_calls.specs.Given.CallersPassing
+pub use Rattle.threads_calls.specs.Given.OwnedOwned
 pub use Rattle.threads_calls.specs.Given.SeizeViewsDeclared
 pub use Rattle.threads_calls.specs.Given.StepsAsking
 pub use Rattle.threads_calls.specs.Shown as CallsShown

@@ -1,4 +1,4 @@
-//! A seat copies places of the chunk that its call helps with, by straight code.
+//! A seat copies places of the chunk that its call helps with, or tries a full batch, by straight code.
 ghost use Rattle.std.specs.Prelude.{◌≡◌, Option};
 ghost use Rattle.map_tables.specs.declared.node.Node.{Node as AnyNode};
 ghost use Rattle.papaya_raw.specs.declared.machines.machine.Machine.TheVariants.{Key as KeyMachine};
@@ -14,7 +14,7 @@ use papaya_raw::machines::KeyCall;
 use std::hash::Hash;
 
 impl<'a, K: Eq + Hash + Drop, V: Drop, S: Hashes<K>> Ahead<'a, K, V, S> {
-    /// Copies places of the chunk that its call helps with, as far as straight code goes.
+    /// Copies places of the chunk that its call helps with, or tries a full batch, as far as straight code goes.
     #[inline(always)]
     pub(crate) fn helps<Q: Equivalent<K>>(&mut self, hasher: &S, call: &mut KeyCall<K, V, Q>)
         requires ahead { IsAhead K.eq S.hash hasher.now (key_call Q.stands_for call.old) self.old.seat.now.view }
