@@ -4,4 +4,6 @@
 #[cfg(test)]
 mod building;
 #[cfg(test)]
+mod copying;
+#[cfg(test)]
 mod holding;

@@ -1,0 +1,3 @@
+use Rattle.std.specs.Prelude.{Some, None}
+use Rattle.std.proofs.Common.{refl}
+use Rattle.papaya_sessions.proofs.session.comparing.has_equal.Goals as goal
