@@ -253,13 +253,13 @@ PLANTED = [
             ("seize_callers/src/within.rt", "        self.store(At::Slot(slot, HEAD), ACTIVE);\n", ""),
             (
                 "seize_callers/src/caller/roots.rt",
-                "        let word = self.blocks.load(&mut self.seat, At::Root(root));\n        named(word)\n",
+                "        self.blocks.load(&mut self.seat, At::Root(root))\n",
                 "        let word = self.blocks.load(&mut self.seat, At::Root(root));\n"
                 "        let head = At::Slot(_slot, seize::states::HEAD);\n"
                 "        if self.blocks.load(&mut self.seat, head) == seize::states::IDLE {\n"
                 "            self.blocks.store(&mut self.seat, head, seize::states::ACTIVE);\n"
                 "        }\n"
-                "        named(word)\n",
+                "        word\n",
             ),
         ],
     ),

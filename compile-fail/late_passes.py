@@ -35,7 +35,7 @@ STEPS = [
     ("session_leaves", "session.leave();", False),
     ("session_looks", "let _ = session.find(rt, &2);", False),
     ("session_stores", "let _ = session.insert(rt, 1, 3);", False),
-    ("session_removes", "let _ = session.remove(rt, 1);", False),
+    ("session_removes", "let _ = session.remove(rt, &1);", False),
 ]
 REFUSALS = {"borrow-e0502"}
 MAIN = """

@@ -38,7 +38,7 @@ ENDS = [
     ("refresh", "session.refresh();"),
     ("look", "let _ = session.get(rt, &2);"),
     ("insert", "let _ = session.insert(rt, 1, 3);"),
-    ("remove", "let _ = session.remove(rt, 1);"),
+    ("remove", "let _ = session.remove(rt, &1);"),
 ]
 LATE = {"borrow-e0502", "borrow-e0505", "borrow-e0499"}
 # who is sent to another thread, or shared with it, by its type and what is done there; and whether that may be

@@ -1,6 +1,7 @@
 //! The kinds of turns, and how many of them are taken on a thread.
 ghost use Rattle.std.specs.Prelude.{◌≡◌, None};
 
+use seize::Fault;
 use seize::rows::Defers;
 use seize_blocks::Blocks;
 use seize_shared::{Fixed, Guard, LocalGuard, OfRows, Registration, RootGuard};
@@ -8,6 +9,9 @@ use std::alloc::Global;
 
 /// How many roots there are.
 pub(crate) const ROOTS: u64 = 4;
+
+/// How many slots there are.
+const SLOTS: u64 = 65_536;
 
 /// What is chosen for the memory.
 pub(crate) const CHOSEN: Fixed = Fixed {
@@ -60,26 +64,56 @@ fn puts(guard: &mut LocalGuard<'_, '_, Number>, root: u64, turns: u64) -> u64 {
     put
 }
 
-/// Takes so many slots, all of which are taken at once, and answers how many there were.
+/// Gives the slot up that was taken last, and takes it again, also by its number.
+fn regains<'a>(blocks: &'a Blocks<Number, OfRows>, all: &mut Vec<Registration<'a, Number>>) -> bool
+    requires { blocks.now.words.fixed ≡ record { batch_size = 32; roots = 4; chains = 0 } }
+{
+    let Some(mut last) = all.pop() else {
+        return false;
+    };
+    let slot = last.enter().thread_id();
+    drop(last);
+    let Ok(mut again) = Registration::new(blocks, &CHOSEN) else {
+        return false;
+    };
+    let found = again.enter().thread_id() == slot;
+    all.push(again).is_ok() && found
+}
+
+/// Takes a slot more, the one with this number. Where there is none it is refused as used up, and a slot that is given up then is had again.
+fn takes_one<'a>(
+    blocks: &'a Blocks<Number, OfRows>,
+    all: &mut Vec<Registration<'a, Number>>,
+    number: u64,
+) -> bool
+    requires { blocks.now.words.fixed ≡ record { batch_size = 32; roots = 4; chains = 0 } }
+{
+    match Registration::new(blocks, &CHOSEN) {
+        Ok(mut registration) => {
+            let found = registration.enter().thread_id() == number;
+            all.push(registration).is_ok() && found
+        }
+        Err(Fault::SlotsUsedUp) => number >= SLOTS && regains(blocks, all),
+        Err(_) => false,
+    }
+}
+
+/// Takes so many slots, one after another, all at once as long as there are any, and answers how often it came to what it should.
 fn slots(alloc: Global, blocks: &Blocks<Number, OfRows>, turns: u64) -> u64
     requires { blocks.now.words.fixed ≡ record { batch_size = 32; roots = 4; chains = 0 } }
 {
     let mut all = Vec::new(alloc);
-    for taken in 0..turns {
-        match Registration::new(blocks, &CHOSEN) {
-            Ok(registration) => {
-                if all.push(registration).is_err() {
-                    return taken;
-                }
-            }
-            Err(_) => return taken,
+    let mut well = 0;
+    for number in 0..turns {
+        if takes_one(blocks, &mut all, number) {
+            well = u64::wrapping_add(well, 1);
         }
     }
-    turns
+    well
 }
 
 /// Takes so many turns with a slot of its own, and answers how many came to what they should: a section is opened and ended; or, all within one section, a root
-/// is looked at, where a value is; or a value is put at a root, the same one for all threads, or one of the thread's own. Or it takes so many slots at once.
+/// is looked at, where a value is; or a value is put at a root, the same one for all threads, or one of the thread's own. Or each turn takes a slot more.
 pub(crate) fn takes(
     alloc: Global,
     blocks: &Blocks<Number, OfRows>,

@@ -1,6 +1,6 @@
 pub mod PlainTexts
-pub mod Members
-pub mod Items
+pub mod PairByPair
+pub mod SortedItems
 pub mod Readings
 pub mod OneArray
 mod Narrow

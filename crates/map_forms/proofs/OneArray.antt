@@ -12,7 +12,7 @@ use Rattle.serde_json.specs.View.{items_of}
 use Rattle.serde_json.specs.Written.{compact_text}
 use Rattle.map_forms.specs.Arrays.{HasElements}
 use Rattle.map_forms.specs.ArrayLaws.{ArraysAreOne, ArraysHaveNoOrder, ArraysTell}
-use Rattle.map_forms.proofs.Members.{first_is, later_is}
+use Rattle.map_forms.proofs.PairByPair.{first_is, later_is}
 
 -- this text stands before that of each of these
 abbrev StandsBefore : List ℕ → List Data → Type 0

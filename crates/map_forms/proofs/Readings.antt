@@ -14,7 +14,7 @@ use Rattle.serde_json.specs.View.{view, items_view}
 use Rattle.serde_json.specs.declared.value.Value.{Value}
 use Rattle.map_forms.specs.Arrays.{AreElementsOf, FirstBad, HasElements, IsElementOf, IsNoElement, IsRefused}
 use Rattle.map_forms.specs.declared.fault.JsonFault.{JsonFault}
-use Rattle.map_forms.proofs.Members.{first_is, later_is}
+use Rattle.map_forms.proofs.PairByPair.{first_is, later_is}
 
 -- what passes is still there
 kept_there : {X : Type 0} (test : X → Bool) (xs : List X) (y : X) → Contains xs y → test y ≡ true → Contains (filter test xs) y

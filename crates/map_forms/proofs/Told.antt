@@ -7,7 +7,7 @@ use Rattle.std.proofs.lemmas.List.Elements.{All-cons, All-nil}
 use Rattle.serde_json.specs.Data.{Data, Members}
 use Rattle.serde_json.specs.declared.value.Value.{Value}
 use Rattle.map_forms.specs.Objects.{members_with}
-use Rattle.map_forms.proofs.Items.{AreSoFar, one_more}
+use Rattle.map_forms.proofs.SortedItems.{AreSoFar, one_more}
 use Rattle.map_forms.specs.Growing.{PutsItem, PutsMember}
 
 module _ {K V W : Type 0} (key_in : K → Type 0) (text : K → List ℕ) (value_in : V → Type 0) (value : V → Data) (refused : W → Bool) (members : W → Members) where

@@ -122,10 +122,10 @@ impl<'m, K: Eq + Hash + Drop, S: Hashes<K>> SetSession<'m, K, S> {
 
     /// Takes the element out that equals this key, and answers whether there was one. It is dropped once no section that was open before holds it. The faults are
     /// `Fault::Capacity` and `Fault::Memory`; then the set has not changed.
-    pub fn remove<R: Wait>(&mut self, rt: &R, key: K) -> Result<bool, Fault>
+    pub fn remove<R: Wait, Q: Form<K, S>>(&mut self, rt: &R, key: &Q) -> Result<bool, Fault>
         ensures keeps { KeepsMap self.old.session self.new.session }
-        ensures taken { IfOk result (λ there. SetGaveUp K.eq S.hash key there self.old.session.base.caller self.new.session.base.caller) }
-        ensures refused { IfErr result (λ fault. WasRefused K.eq S.hash (Remove key) fault self.old.session.base.caller self.new.session.base.caller) }
+        ensures taken { IfOk result (λ there. SetGaveUp K.eq S.hash (Q.stands_for key.now) there self.old.session.base.caller self.new.session.base.caller) }
+        ensures refused { IfErr result (λ fault. WasRefused K.eq S.hash (Remove (Q.stands_for key.now)) fault self.old.session.base.caller self.new.session.base.caller) }
     {
         self.session.remove(rt, key)
     }

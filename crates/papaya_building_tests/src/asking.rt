@@ -71,10 +71,10 @@ fn asks<R: Wait>(rt: &R, alloc: Global) -> Result<[bool; 7], Fault> {
         asked.store(1, SeqCst);
         2
     })?;
-    let kept = session.remove_if(rt, 42, |_, value| *value == 2)?;
+    let kept = session.remove_if(rt, &42, |_, value| *value == 2)?;
     let there = session.get(rt, &42).copied() == Some(1);
-    let removed = session.remove_if(rt, 42, |key, value| *key == 42 && *value == 1)?;
-    let none = session.remove_if(rt, 42, |_, _| true)?;
+    let removed = session.remove_if(rt, &42, |key, value| *key == 42 && *value == 1)?;
+    let none = session.remove_if(rt, &42, |_, _| true)?;
     session.extend(rt, [(42, 1), (16, 2), (42, 3)])?;
     let extended = session.get(rt, &42).copied() == Some(3) && session.contains_key(rt, &16);
     let unasked = asked.load(SeqCst) == 0;

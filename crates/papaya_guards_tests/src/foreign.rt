@@ -51,14 +51,14 @@ fn stores<R: Wait>(rt: &R, alloc: Global) -> Told<[bool; 6]> {
     let mut strange = other.session()?;
     let inserted = has_come_back(map.insert(rt, 1, 2, &mut strange));
     let tried = has_come_back(map.try_insert(rt, 1, 2, &mut strange));
-    let removed = is_foreign(map.remove(rt, 1, &mut strange));
+    let removed = is_foreign(map.remove(rt, &1, &mut strange));
     let asked = is_foreign(map.try_insert_with(rt, 1, || 2, &mut strange))
-        && is_foreign(map.remove_if(rt, 1, |_, _| true, &mut strange));
+        && is_foreign(map.remove_if(rt, &1, |_, _| true, &mut strange));
     let none = !strange.contains_key(rt, &1);
     let stored = matches!(map.insert(rt, 1, 2, &mut guard), Ok(false))
-        && matches!(map.remove_if(rt, 1, |_, v| *v == 2, &mut guard), Ok(true))
+        && matches!(map.remove_if(rt, &1, |_, v| *v == 2, &mut guard), Ok(true))
         && matches!(map.try_insert_with(rt, 1, || 3, &mut guard), Ok(true))
-        && matches!(map.remove(rt, 1, &mut guard), Ok(true));
+        && matches!(map.remove(rt, &1, &mut guard), Ok(true));
     Ok([inserted, tried, asked, removed, none, stored])
 }
 

@@ -22,7 +22,7 @@ fn settles<R: Wait>(rt: &R, mut session: Guard<'_>, value: u64) -> Told<u64> {
 fn takes<R: Wait>(rt: &R, mut session: Guard<'_>) -> Told<u64> {
     let mut sum = 0u64;
     for key in 0..KEYS {
-        if let Some((its, lent)) = session.remove_entry(rt, key)? {
+        if let Some((its, lent)) = session.remove_entry(rt, &key)? {
             if *its == key {
                 sum = u64::wrapping_add(sum, *lent);
             }

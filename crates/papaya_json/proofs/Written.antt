@@ -12,7 +12,7 @@ use Rattle.serde_json.specs.View.{view}
 use Rattle.serde_json.specs.declared.value.Value.{Value}
 use Rattle.map_forms.specs.Arrays.{IsArrayOf}
 use Rattle.map_forms.specs.Objects.{members_with}
-use Rattle.map_forms.proofs.Items.{none_yet, written_of}
+use Rattle.map_forms.proofs.SortedItems.{none_yet, written_of}
 use Rattle.map_forms.specs.Growing.{HasItems, PutsItem, PutsMember}
 use Rattle.map_forms.proofs.Told.{all_items, all_written}
 use Rattle.papaya_json.specs.Json.{AreWrittenAs, IsFilledBy, IsFilledWith, IsWrittenAs, WasNotWritten}

@@ -13,8 +13,7 @@ ghost use Rattle.serde_json.specs.Data.{object};
 ghost use Rattle.serde_json.specs.View.{members_view, view};
 
 use crate::forms::{FromJson, ToJson};
-use map_forms::{JsonFault, JsonForm, JsonKey};
-use map_forms::{Members, Puts, put_members};
+use map_forms::{JsonFault, JsonForm, JsonKey, Members, Puts, put_members};
 use map_tables::Hashes;
 use papaya::{HashMap, IdSource, Onlooker, Session};
 use seize_words::Fault;

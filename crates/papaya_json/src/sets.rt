@@ -13,8 +13,7 @@ ghost use Rattle.serde_json.specs.Data.{array};
 ghost use Rattle.serde_json.specs.View.{items_view, view};
 
 use crate::forms::{FromJson, ToJson};
-use map_forms::{JsonFault, JsonForm};
-use map_forms::{Items, Puts, put_items};
+use map_forms::{Items, JsonFault, JsonForm, Puts, put_items};
 use map_tables::Hashes;
 use papaya::{HashSet, IdSource, Onlooker, SetSession};
 use seize_words::Fault;

@@ -25,7 +25,7 @@ fn tries<R: Wait>(rt: &R, session: &mut Own<'_>, value: u64) -> Result<u64, Faul
 fn removes<R: Wait>(rt: &R, session: &mut Own<'_>) -> Result<u64, Fault> {
     let mut removed = 0u64;
     for key in 0..KEYS {
-        removed = u64::wrapping_add(removed, u64::from(session.remove(rt, key)?));
+        removed = u64::wrapping_add(removed, u64::from(session.remove(rt, &key)?));
         session.refresh();
     }
     Ok(removed)
@@ -71,7 +71,7 @@ fn alone<R: Wait>(rt: &R, alloc: Global) -> Result<(bool, bool, bool, Option<u64
     let mut session = map.session()?;
     let stored = matches!(session.try_insert(rt, 7u64, 1u64)?, Attempt::Stored);
     let back = matches!(session.try_insert(rt, 7, 2)?, Attempt::Present(7, 2));
-    let removed = session.remove(rt, 7)?;
+    let removed = session.remove(rt, &7)?;
     Ok((stored, back, removed, session.get(rt, &7).copied()))
 }
 

@@ -16,7 +16,7 @@ use Rattle.serde_json.specs.View.{view, members_view}
 use Rattle.serde_json.proofs.Views.{Entry, put_last}
 use Rattle.map_forms.specs.Objects.{AreApart, IsObjectOf, members_with}
 use Rattle.map_forms.specs.declared.fault.JsonFault.{JsonFault}
-use Rattle.map_forms.proofs.Members.{objects_have_their_pairs, objects_have_no_order}
+use Rattle.map_forms.proofs.PairByPair.{objects_have_their_pairs, objects_have_no_order}
 use Rattle.map_straight.specs.Shown.Lent.{pair_shown}
 use Rattle.owner_map.specs.Given.{HoldsOn, found_by, last_put, left_by}
 use Rattle.papaya_seq.specs.Json.{FirstFault, IsLastOf, IsNoPair, IsPairOf, IsRefusal, LastIsOf}

@@ -10,7 +10,7 @@ use Rattle.serde_json.specs.Find.{get_member}
 use Rattle.map_forms.specs.ArrayLaws.{HaveSameValues}
 use Rattle.map_forms.specs.Objects.{IsObjectOf}
 use Rattle.map_forms.proofs.OneArray.{arrays_tell}
-use Rattle.map_forms.proofs.Members.{first_is, later_is}
+use Rattle.map_forms.proofs.PairByPair.{first_is, later_is}
 use Rattle.owner_map.specs.Given.{agree_from_each, found_by, with_no_values}
 use Rattle.papaya_seq.specs.ReadBack.{OneArrayOneSet, OneObjectOneMap}
 

@@ -146,10 +146,10 @@ impl<'m, K: Eq + Hash + Drop, V: Drop, S: Hashes<K>> Session<'m, K, V, S> {
 
     /// Removes the pair of a key, and answers whether there was one. It is dropped once no section that was open before holds it. The faults are `Fault::Capacity` and
     /// `Fault::Memory`; then no pair was removed.
-    pub fn remove<R: Wait>(&mut self, rt: &R, key: K) -> Result<bool, Fault>
+    pub fn remove<R: Wait, Q: Form<K, S>>(&mut self, rt: &R, key: &Q) -> Result<bool, Fault>
         ensures keeps { KeepsMap self.old self.new }
-        ensures removed { IfOk result (λ removed. MapGaveUp K.eq S.hash key removed self.old.base.caller self.new.base.caller) }
-        ensures refused { IfErr result (λ fault. WasRefused K.eq S.hash (Remove key) fault self.old.base.caller self.new.base.caller) }
+        ensures removed { IfOk result (λ removed. MapGaveUp K.eq S.hash (Q.stands_for key.now) removed self.old.base.caller self.new.base.caller) }
+        ensures refused { IfErr result (λ fault. WasRefused K.eq S.hash (Remove (Q.stands_for key.now)) fault self.old.base.caller self.new.base.caller) }
     {
         match self.base.remove(rt, key) {
             Ok(taken) => Ok(taken.is_some()),
@@ -179,17 +179,17 @@ impl<'m, K: Eq + Hash + Drop, V: Drop, S: Hashes<K>> Session<'m, K, V, S> {
 
     /// Removes the pair of a key, if the test says yes of it, and answers whether it has. The test is called again where another pair of the key has taken the place of the
     /// first. The faults are `Fault::Capacity` and `Fault::Memory`: no pair was removed then.
-    pub fn remove_if<R: Wait, F: Fn(&K, &V) -> bool>(
+    pub fn remove_if<R: Wait, Q: Form<K, S>, F: Fn(&K, &V) -> bool>(
         &mut self,
         rt: &R,
-        key: K,
+        key: &Q,
         test: F,
     ) -> Result<bool, Fault>
         requires callable { F.IsAlwaysCallable test }
         ensures keeps { KeepsMap self.old self.new }
-        ensures removed { IfOk result (λ removed. HasRemovedIf K.eq S.hash key removed self.old.base.caller self.new.base.caller) }
-        ensures asked { HasAsked K.eq S.hash (TestSays (MayTest F.Fn test)) (RemoveIf key) self.old.base.caller.seat.view self.new.base.caller.seat.view }
-        ensures refused { IfErr result (λ fault. HasBeenRefused K.eq S.hash (RemoveIf key) fault self.old.base.caller self.new.base.caller) }
+        ensures removed { IfOk result (λ removed. HasRemovedIf K.eq S.hash (Q.stands_for key.now) removed self.old.base.caller self.new.base.caller) }
+        ensures asked { HasAsked K.eq S.hash (TestSays (MayTest F.Fn test)) (RemoveIf (Q.stands_for key.now)) self.old.base.caller.seat.view self.new.base.caller.seat.view }
+        ensures refused { IfErr result (λ fault. HasBeenRefused K.eq S.hash (RemoveIf (Q.stands_for key.now)) fault self.old.base.caller self.new.base.caller) }
     {
         self.base.remove_if(rt, key, test)
     }

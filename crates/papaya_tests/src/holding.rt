@@ -29,8 +29,8 @@ fn alone<R: Wait>(rt: &R, alloc: Global) -> Result<[bool; 7], Fault> {
     let again = session.insert(rt, 42)?;
     let has = session.contains(rt, &42);
     session.refresh();
-    let removed = session.remove(rt, 42)?;
-    let gone = !session.contains(rt, &42) && !session.remove(rt, 42)?;
+    let removed = session.remove(rt, &42)?;
+    let gone = !session.contains(rt, &42) && !session.remove(rt, &42)?;
     let none = gone && !session.pin().contains(rt, &42) && session.pin().get(rt, &42).is_none();
     session.extend(rt, [42, 16, 38])?;
     let both = session.contains(rt, &42) && session.contains(rt, &16);
@@ -45,7 +45,7 @@ fn works<R: Wait>(rt: &R, mut session: Own<'_>) -> Result<(u64, u64), Fault> {
         new = u64::wrapping_add(new, u64::from(session.insert(rt, key)?));
     }
     for key in 0..KEYS {
-        taken = u64::wrapping_add(taken, u64::from(session.remove(rt, key)?));
+        taken = u64::wrapping_add(taken, u64::from(session.remove(rt, &key)?));
         session.refresh();
     }
     Ok((new, taken))
@@ -82,7 +82,7 @@ fn guarded<R: Wait>(rt: &R, alloc: Global) -> Result<[bool; 5], Fault> {
         refused,
         matches!(set.contains(rt, &1, &guard, &mut pass), Ok(true)),
         set.get(rt, &1, &guard, &mut pass)?.copied() == Some(1),
-        set.remove(rt, 1, &mut guard)?,
+        set.remove(rt, &1, &mut guard)?,
     ])
 }
 

@@ -39,7 +39,7 @@ fn asks<R: Wait>(rt: &R, cache: &mut Cache<'_>) -> Result<u64, Fault> {
         let square = square(rt, cache, number)?;
         right = right.wrapping_add(u64::from(square == number.wrapping_mul(number)));
         if number >= 100 {
-            cache.remove(rt, number - 100)?;
+            cache.remove(rt, &(number - 100))?;
         }
         cache.refresh();
     }

@@ -86,11 +86,11 @@ fn tries<R: Wait>(
 
 /// Removes a key, which is there, and tells whether it is gone then. Where that was refused, it was there still.
 fn removes<R: Wait>(rt: &R, session: &mut Session<'_, u64, u64, Hashing>, key: u64) -> bool {
-    let removed = match session.remove(rt, key) {
+    let removed = match session.remove(rt, &key) {
         Ok(removed) => removed,
         Err(fault) => {
             let still = matches!(fault, Fault::Memory) && session.contains_key(rt, &key);
-            still && matches!(session.remove(rt, key), Ok(true))
+            still && matches!(session.remove(rt, &key), Ok(true))
         }
     };
     removed && !session.contains_key(rt, &key)
@@ -158,13 +158,13 @@ fn tests<R: Wait>(
     key: u64,
     value: u64,
 ) -> bool {
-    let removed = match session.remove_if(rt, key, |_, there| *there == value) {
+    let removed = match session.remove_if(rt, &key, |_, there| *there == value) {
         Ok(removed) => removed,
         Err(fault) => {
             let still = matches!(fault, Fault::Memory) && session.contains_key(rt, &key);
             still
                 && matches!(
-                    session.remove_if(rt, key, |_, there| *there == value),
+                    session.remove_if(rt, &key, |_, there| *there == value),
                     Ok(true)
                 )
         }

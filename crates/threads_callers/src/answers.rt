@@ -7,6 +7,7 @@ ghost use Rattle.map_tables.specs.declared.node.Node.TheVariants.{Pair};
 use map_tables::Node;
 use papaya_raw::machines::{Answer, KeyAnswer};
 use seize_words::{Fault, Refused};
+use threads_errands::Ran;
 
 /// A pair that a call has found, stored, replaced or removed, by the word that links to its block.
 #[derive(Clone, Copy)]
@@ -22,6 +23,19 @@ pub enum Attempt<K, V> {
     Stored,
     /// The key was there, and the pair comes back.
     Present(K, V),
+}
+
+/// Returns what a call has told last.
+pub fn told_of<K: Drop, V: Drop>(ran: Ran<K, V>) -> Result<Answer, Fault>
+    ensures { result ≡ ran.told }
+{
+    let Ran {
+        told,
+        unstored,
+        near: _,
+    } = ran;
+    drop(unstored);
+    told
 }
 
 /// Tells whether the call's own pair is in the map by this answer.

@@ -10,7 +10,6 @@ ghost use Rattle.threads_callers.specs.Given.ViewsDeclared.view.SeatWork.TheVari
 ghost use Rattle.seize_views.specs.declared.view.Has.TheVariants.{Nothing};
 ghost use Rattle.seize_views.specs.declared.view.SlotView.TheVariants.{Inside, Outside, Rests};
 
-mod asks;
 mod keys;
 mod pass;
 mod seats;

@@ -4,4 +4,5 @@ mod Standing
 mod Puts
 mod Takes
 mod Helps
+mod Tries
 pub mod Given

@@ -1,4 +1,5 @@
 pub mod Ahead
 pub mod Puts
 pub mod Takes
+pub mod Tries
 pub mod Given

@@ -9,20 +9,22 @@ ghost use Rattle.threads_steps.specs.Given.ErrandsLooking.{HasFound, MayLook};
 ghost use Rattle.threads_steps.specs.Given.ErrandsMaking.{HasOutcome, MayBegin};
 ghost use Rattle.threads_steps.specs.Given.ViewsDeclared.view.SeatWork.TheVariants.{Nothing as NoWork};
 ghost use Rattle.seize_views.specs.declared.view.SlotView.TheVariants.{Rests};
+ghost use Rattle.papaya_raw.specs.CallAsks.{removing_if};
 ghost use Rattle.papaya_raw.specs.CallPoints.{removing};
 ghost use Rattle.papaya_raw.specs.declared.machines.machine.Machine.TheVariants.{Key as KeyMachine};
-ghost use Rattle.threads_steps.specs.Given.ActsActs.{Remove};
+ghost use Rattle.threads_steps.specs.Given.ActsActs.{Remove, RemoveIf};
 ghost use Rattle.threads_steps.specs.Storing.{making};
 
 use crate::removing::removes;
 use crate::storing::stores;
 use map_machines::{Lookup, NewMap};
 use map_straight::Sight;
-use map_tables::{Equivalent, Hashes, Node, Setting};
-use papaya_raw::machines::{Answer, Machine, There};
+use map_tables::{Equivalent, Hashes, Lent, Node, Setting};
+use papaya_raw::machines::{Answer, KeyCall, Machine, There};
 use seize_blocks::{Blocks, Errand, Seat};
 use seize_words::Fault;
 use std::hash::Hash;
+use std::marker::PhantomData;
 use std::sync::Wait;
 use threads_steps::{OfMaps, Ran, Sleepers, Within, goes_on, sees};
 
@@ -83,23 +85,26 @@ impl<'f, R: Wait, K: Eq + Hash, V, S: Hashes<K>, Q: Equivalent<K>> Errand<Node<K
     }
 }
 
-/// Removes the pair of a key.
-pub struct Removes<'r, R, K, S> {
+/// Removes the pair of the key for which this stands.
+#[derive(Drop)]
+pub struct Removes<'r, R, Q, S> {
     pub rt: &'r R,
     pub sleepers: &'r Sleepers,
     pub hasher: &'r S,
     pub setting: Setting,
     pub hash: u64,
-    pub key: K,
+    pub key: &'r Q,
 }
 
-impl<'r, R: Wait, K: Eq + Hash + Drop, V: Drop, S: Hashes<K>> Errand<Node<K, V>, OfMaps<S>>
-    for Removes<'r, R, K, S> {
+impl<'r, R: Wait, K: Eq + Hash + Drop, V: Drop, S: Hashes<K>, Q: Equivalent<K>> Errand<
+    Node<K, V>,
+    OfMaps<S>,
+> for Removes<'r, R, Q, S> {
     type Answer = Result<Answer, Fault>;
 
-    ghost asks = { λ r fixed v. MayCall K.eq S.hash r.hasher.now (KeyMachine (removing r.setting r.hash r.key)) v };
+    ghost asks = { λ r fixed v. MayCall K.eq S.hash r.hasher.now (KeyMachine (removing r.setting r.hash (Q.stands_for r.key.now))) v };
 
-    ghost did = { λ r fixed v answer w. HasCalled K.eq S.hash (Remove r.key) answer None v w };
+    ghost did = { λ r fixed v answer w. HasCalled K.eq S.hash (Remove (Q.stands_for r.key.now)) answer None v w };
 
     fn run(
         self,
@@ -233,25 +238,32 @@ impl<'m, R: Wait, K: Eq + Hash + Drop, V: Drop, S: Hashes<K>, F: FnOnce() -> V> 
     }
 }
 
-/// Removes a pair of which a test says yes.
-pub struct RemovesIf<'r, R, K, V, S, F> {
+/// Removes the pair of the key for which this stands, if a test says yes of it.
+pub struct RemovesIf<'r, R, Q, S, F> {
     pub rt: &'r R,
     pub sleepers: &'r Sleepers,
     pub hasher: &'r S,
-    pub machine: &'r mut Machine<K, V>,
+    pub setting: Setting,
+    pub hash: u64,
+    pub key: &'r Q,
     pub near: u64,
     pub test: &'r F,
 }
 
-impl<'r, R: Wait, K: Eq + Hash + Drop, V: Drop, S: Hashes<K>, F: Fn(&K, &V) -> bool> Errand<
-    Node<K, V>,
-    OfMaps<S>,
-> for RemovesIf<'r, R, K, V, S, F> {
+impl<
+    'r,
+    R: Wait,
+    K: Eq + Hash + Drop,
+    V: Drop,
+    S: Hashes<K>,
+    Q: Equivalent<K>,
+    F: Fn(&K, &V) -> bool,
+> Errand<Node<K, V>, OfMaps<S>> for RemovesIf<'r, R, Q, S, F> {
     type Answer = Ran<K, V>;
 
-    ghost asks = { λ r fixed v. (s : Stage) × MayDoAs K.eq S.hash removes_if s r.hasher.now r.machine.now v × F.IsAlwaysCallable r.test.now };
+    ghost asks = { λ r fixed v. (s : Stage) × MayDoAs K.eq S.hash removes_if s r.hasher.now (KeyMachine (removing_if r.setting r.hash (Q.stands_for r.key.now))) v × F.IsAlwaysCallable r.test.now };
 
-    ghost did = { λ r fixed v answer w. HasAnswered K.eq S.hash (TestSays (MayTest F.Fn r.test.now)) (wanted_of r.machine.now) answer.told v w };
+    ghost did = { λ r fixed v answer w. HasAnswered K.eq S.hash (TestSays (MayTest F.Fn r.test.now)) (RemoveIf (Q.stands_for r.key.now)) answer.told v w };
 
     fn run(
         self,
@@ -262,12 +274,20 @@ impl<'r, R: Wait, K: Eq + Hash + Drop, V: Drop, S: Hashes<K>, F: Fn(&K, &V) -> b
             rt,
             sleepers,
             hasher,
-            machine,
+            setting,
+            hash,
+            key,
             near,
             test,
         } = self;
+        let lent = Lent {
+            asked: key,
+            keys: PhantomData,
+        };
+        let call: KeyCall<K, V, Lent<'_, K, Q>> = KeyCall::remove_if(setting, hash, lent);
+        let mut machine = Machine::Key(call);
         let mut within = Within::new(blocks, seat, near);
-        within.removes_if(rt, sleepers, hasher, machine, test)
+        within.removes_if(rt, sleepers, hasher, &mut machine, test)
     }
 }
 

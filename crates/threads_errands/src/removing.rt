@@ -13,30 +13,31 @@ ghost use Rattle.papaya_raw.specs.declared.machines.machine.Machine.TheVariants.
 use crate::ahead::Ahead;
 use crate::running::{runs, stands};
 use map_straight::{Removal, RemovalAt, removal_of};
-use map_tables::{Hashes, Node, Setting, Trial};
-use papaya_raw::machines::{Answer, Machine};
+use map_tables::{Equivalent, Hashes, Lent, Node, Setting, Trial};
+use papaya_raw::machines::{Answer, KeyCall, Machine};
 use seize_blocks::{Blocks, Seat};
 use seize_words::Fault;
 use std::hash::Hash;
+use std::marker::PhantomData;
 use std::sync::Wait;
 use threads_steps::{OfMaps, Ran, Sleepers, Within};
 
-/// Begins a call that is to remove the pair of this key.
+/// Begins a call that is to remove the pair of the key for which this stands.
 #[inline(always)]
-fn begins<K: Eq, V, S: Hashes<K>>(
+fn begins<K: Eq + Hash, V, Q: Equivalent<K>, S: Hashes<K>>(
     blocks: &Blocks<Node<K, V>, OfMaps<S>>,
     seat: &mut Seat<Node<K, V>, OfMaps<S>>,
     hasher: &S,
     setting: Setting,
     hash: u64,
-    key: &K,
+    key: &Q,
 )
     requires own { seat.old.base ≡ blocks.now.words.id.views_name }
     requires away { seat.old.away ≢ None }
-    requires may { MayCall K.eq S.hash hasher.now (KeyMachine (removing setting hash key.now)) seat.old.view }
+    requires may { MayCall K.eq S.hash hasher.now (KeyMachine (removing setting hash (Q.stands_for key.now))) seat.old.view }
     ensures same { (seat.new.base ≡ seat.old.base) × (seat.new.id ≡ seat.old.id) × (seat.new.away ≡ seat.old.away) }
-    ensures begun { Begins K.eq S.hash (Remove key.now) seat.old.view seat.new.view }
-    ensures calls { IsCalling hasher.now (KeyMachine (removing setting hash key.now)) seat.new.view }
+    ensures begun { Begins K.eq S.hash (Remove (Q.stands_for key.now)) seat.old.view seat.new.view }
+    ensures calls { IsCalling hasher.now (KeyMachine (removing setting hash (Q.stands_for key.now))) seat.new.view }
 {
     let mut within = Within::new(blocks, seat, 0);
     within.begins_to_remove(hasher, setting, hash, key);
@@ -44,19 +45,19 @@ fn begins<K: Eq, V, S: Hashes<K>>(
 
 /// Removes the pair of the key of the seat's call, as far as straight code goes.
 #[inline(always)]
-fn takes<K: Eq + Hash, V, S: Hashes<K>>(
+fn takes<K: Eq + Hash, V, Q: Equivalent<K>, S: Hashes<K>>(
     blocks: &Blocks<Node<K, V>, OfMaps<S>>,
     seat: &mut Seat<Node<K, V>, OfMaps<S>>,
     hasher: &S,
     setting: Setting,
     hash: u64,
-    key: &K,
+    key: &Q,
 ) -> RemovalAt
     requires own { seat.old.base ≡ blocks.now.words.id.views_name }
     requires away { seat.old.away ≢ None }
-    requires ahead { IsAhead K.eq S.hash hasher.now (seeking setting hash key.now untried at.Roots) seat.old.view }
+    requires ahead { IsAhead K.eq S.hash hasher.now (seeking setting hash (Q.stands_for key.now) untried at.Roots) seat.old.view }
     ensures same { (seat.new.base ≡ seat.old.base) × (seat.new.id ≡ seat.old.id) × (seat.new.away ≡ seat.old.away) }
-    ensures taken { HasTakenOut K.eq S.hash hasher.now setting hash key.now result seat.old.view seat.new.view }
+    ensures taken { HasTakenOut K.eq S.hash hasher.now setting hash (Q.stands_for key.now) result seat.old.view seat.new.view }
 {
     let mut ahead = Ahead::new(blocks, seat, 0);
     ahead.removes(hasher, setting, hash, key)
@@ -65,7 +66,7 @@ fn takes<K: Eq + Hash, V, S: Hashes<K>>(
 /// Takes the steps of the seat's call from where its code stands on. It is a call of its own: where straight code goes all the way, there is no machine.
 #[cold]
 #[inline(never)]
-fn goes_on<R: Wait, K: Eq + Hash + Drop, V: Drop, S: Hashes<K>>(
+fn goes_on<R: Wait, K: Eq + Hash + Drop, V: Drop, Q: Equivalent<K>, S: Hashes<K>>(
     rt: &R,
     sleepers: &Sleepers,
     blocks: &Blocks<Node<K, V>, OfMaps<S>>,
@@ -73,18 +74,23 @@ fn goes_on<R: Wait, K: Eq + Hash + Drop, V: Drop, S: Hashes<K>>(
     hasher: &S,
     setting: Setting,
     hash: u64,
-    key: K,
+    key: &Q,
     trial: Trial,
     removal: Removal,
 ) -> Result<Answer, Fault>
     requires own { seat.old.base ≡ blocks.now.words.id.views_name }
     requires away { seat.old.away ≢ None }
-    requires ahead { IsAhead K.eq S.hash hasher.now (seeking setting hash key trial (removing_at setting trial removal)) seat.old.view }
+    requires ahead { IsAhead K.eq S.hash hasher.now (seeking setting hash (Q.stands_for key.now) trial (removing_at setting trial removal)) seat.old.view }
     ensures same { (seat.new.base ≡ seat.old.base) × (seat.new.id ≡ seat.old.id) × (seat.new.away ≡ seat.old.away) }
     ensures ended { HasEnded result seat.old.view seat.new.view }
     ensures stays { StaysThere seat.old.view seat.new.view }
 {
-    let mut machine = Machine::Key(removal_of(setting, hash, key, trial, removal));
+    let lent = Lent {
+        asked: key,
+        keys: PhantomData,
+    };
+    let call: KeyCall<K, V, Lent<'_, K, Q>> = removal_of(setting, hash, lent, trial, removal);
+    let mut machine = Machine::Key(call);
     stands(blocks, seat, hasher, &machine);
     let ran = runs(rt, sleepers, blocks, seat, 0, hasher, &mut machine, None);
     let Ran {
@@ -98,7 +104,7 @@ fn goes_on<R: Wait, K: Eq + Hash + Drop, V: Drop, S: Hashes<K>>(
 
 /// Removes the pair of a key from the map that the seat knows.
 #[inline(always)]
-pub(crate) fn removes<R: Wait, K: Eq + Hash + Drop, V: Drop, S: Hashes<K>>(
+pub(crate) fn removes<R: Wait, K: Eq + Hash + Drop, V: Drop, Q: Equivalent<K>, S: Hashes<K>>(
     rt: &R,
     sleepers: &Sleepers,
     blocks: &Blocks<Node<K, V>, OfMaps<S>>,
@@ -106,16 +112,16 @@ pub(crate) fn removes<R: Wait, K: Eq + Hash + Drop, V: Drop, S: Hashes<K>>(
     hasher: &S,
     setting: Setting,
     hash: u64,
-    key: K,
+    key: &Q,
 ) -> Result<Answer, Fault>
     requires own { seat.old.base ≡ blocks.now.words.id.views_name }
     requires away { seat.old.away ≢ None }
-    requires may { MayCall K.eq S.hash hasher.now (KeyMachine (removing setting hash key)) seat.old.view }
+    requires may { MayCall K.eq S.hash hasher.now (KeyMachine (removing setting hash (Q.stands_for key.now))) seat.old.view }
     ensures same { (seat.new.base ≡ seat.old.base) × (seat.new.id ≡ seat.old.id) × (seat.new.away ≡ seat.old.away) }
-    ensures called { HasCalled K.eq S.hash (Remove key) result None seat.old.view seat.new.view }
+    ensures called { HasCalled K.eq S.hash (Remove (Q.stands_for key.now)) result None seat.old.view seat.new.view }
 {
-    begins(blocks, seat, hasher, setting, hash, &key);
-    match takes(blocks, seat, hasher, setting, hash, &key) {
+    begins(blocks, seat, hasher, setting, hash, key);
+    match takes(blocks, seat, hasher, setting, hash, key) {
         RemovalAt::Answered(answer) => Ok(Answer::Key(answer)),
         RemovalAt::Stands(trial, removal) => goes_on(
             rt, sleepers, blocks, seat, hasher, setting, hash, key, trial, removal,

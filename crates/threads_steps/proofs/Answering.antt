@@ -2,6 +2,7 @@
 use Rattle.std.specs.Prelude.{zero, suc, List, [], ◌∷◌, Option, Some, None, IsSome, Ok}
 use Rattle.std.proofs.Common.{◌⊎◌, ℕ, Bool, inl, inr, refl, sym, subst}
 use Rattle.seize_words.specs.OneMemory.Op.{Op, Out}
+use Rattle.seize_words.specs.OneMemory.Mem.{Took, value_at}
 use Rattle.map_tables.specs.declared.node.Node.{Node}
 use Rattle.owner_calls.proofs.Given.LateKindsKept.Calls.Kept.{asking_kinds_begin}
 use Rattle.owner_calls.proofs.Given.LateKindsKept.Laws.{calls_keep_their_kind, replies_keep_the_kind}
@@ -91,7 +92,7 @@ module _ {K V S : Type 0} where
     came : (v : View K V S) (map : Map S) (c : KeyCall K V K) (end : Machine K V K × Progress (Node K V)) (looks : List (ℕ × Node K V))
         → MayCome (machine_plan same same (hash map.hasher) (kinds.Key c)) end → IsMaking c → Making (called v map (kinds.Key c) end looks)
     came v map c end looks (m, n, s) is =
-        let k = steps_as as_machine m n (call_plan same same (hash map.hasher) c) end s in
+        let k = steps_as as_machine Took value_at m n (call_plan same same (hash map.hasher) c) end s in
         let fits = calls_keep_their_kind same same (hash map.hasher) there.Answers missing.Asks takes.Values c is m n k.0 k.1 in
         subst (λ (e : Machine K V K × Progress (Node K V)). Making (called v map (kinds.Key c) e looks)) (sym k.2)
         (record { of = after v k.0.0 k.0.1 fits.0; newest = newest_then (of_called k.0.1) v.calls (tells_one k.0.1 fits.1) })

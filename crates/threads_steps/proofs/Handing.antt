@@ -1,7 +1,8 @@
 -- A call that is to store a pair has it, until it has put it into the map, or hands it back: where its outcome is not that it is there, the pair has come back.
 use Rattle.std.specs.Prelude.{Option, Some, IsSome, Result, Ok, Err}
 use Rattle.std.proofs.Common.{◌≡◌, ℕ, Bool, true, false, List, ◌⊎◌, inl, inr, refl, sym, subst, ap, ◌∙◌}
-use Rattle.seize_words.specs.OneMemory.Mem.{Mem, Took, value_at}
+use Rattle.seize_words.specs.OneMemory.Mem.{Took, value_at}
+use Rattle.seize_words.specs.OneMemory.Op.{Op, Out}
 use Rattle.seize_words.specs.OneMemory.Plan.{Plan, Turn, Do, Steps, plan_as}
 use Rattle.seize_words.specs.declared.fault.Fault.{Fault}
 use Rattle.map_tables.specs.declared.node.Node.{Node}
@@ -29,10 +30,10 @@ use Rattle.threads_rule.specs.Errands.Calling.{IsBack, IsGoing, IsToStore, Machi
 use Rattle.threads_rule.proofs.CallKinds.Plans.{ends_as}
 
 -- a step whose outcome is turned into another one comes to what that is of
-pub steps_as : {T A B : Type 0} (f : A → B) (m n : Mem T) (plan : Plan T A) (end : B) → Steps Took value_at m (plan_as f plan) n end
-    → (e : A) × Steps Took value_at m plan n e × (end ≡ f e)
-steps_as f m n (Turn rest) end s = let k = ends_as f (value_at n) rest end s.1 in (k.0, (s.0, k.1), k.2)
-steps_as f m n (Do op rest) end s = let k = ends_as f (value_at n) (rest s.0) end s.2 in (k.0, (s.0, s.1, k.1), k.2)
+pub steps_as : {T A B M : Type 0} (f : A → B) (took : M → Op T → Out T → M → Type 0) (shown : M → ℕ → Option T) (m n : M) (plan : Plan T A) (end : B) → Steps took shown m (plan_as f plan) n end
+    → (e : A) × Steps took shown m plan n e × (end ≡ f e)
+steps_as f took shown m n (Turn rest) end s = let k = ends_as f (shown n) rest end s.1 in (k.0, (s.0, k.1), k.2)
+steps_as f took shown m n (Do op rest) end s = let k = ends_as f (shown n) (rest s.0) end s.2 in (k.0, (s.0, s.1, k.1), k.2)
 
 puts : (answer : KeyAnswer) → PutsIt answer → is_put (OfKey answer) ≡ true
 puts (answers.Stored word) is = refl
@@ -95,7 +96,7 @@ module _ {K V : Type 0} where
       key_next : (c : KeyCall K V K) (end : Machine K V K × Progress (Node K V)) → MayCome (plan_as as_machine (call_plan same same hashes c)) end → HandsBack runs end.1
           → StillHas pair (kinds.Key c) back → HasNext pair end.0 back end.1
       key_next c end (m, n, s) hands has =
-          let k = steps_as as_machine m n (call_plan same same hashes c) end s in
+          let k = steps_as as_machine Took value_at m n (call_plan same same hashes c) end s in
           let handed = subst (λ (e : Machine K V K × Progress (Node K V)). HandsBack runs e.1) k.2 hands in
           subst (λ (e : Machine K V K × Progress (Node K V)). HasNext pair e.0 back e.1) (sym k.2)
           (elim has as (λ _. HasNext pair (as_machine k.0).0 back (as_machine k.0).1) [

@@ -1,7 +1,8 @@
 pub mod Tellings
 mod Calls
+mod Holders
 pub mod Calling
-mod Forms
+pub mod Forms
 mod Lookups
 mod Makings
 pub mod Told

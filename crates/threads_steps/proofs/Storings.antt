@@ -1,5 +1,6 @@
 -- A call that was to store a pair is of its kind as long as it goes on, and answers with a pair that is in the map then.
 use Rattle.std.proofs.Common.{◌≡◌, ◌≢◌, ℕ, Bool, ◌⊎◌, inl, inr, refl, sym, subst}
+use Rattle.seize_words.specs.OneMemory.Mem.{Took, value_at}
 use Rattle.map_tables.specs.declared.node.Node.{Node}
 use Rattle.owner_calls.proofs.Given.LateKindsKept.Laws.{calls_keep_their_kind}
 use Rattle.owner_calls.specs.Given.LateKinds.{FitsAt, IsFit, OutcomeFits, RepliesFit}
@@ -77,7 +78,7 @@ module _ {K V : Type 0} where
     pub next_storing : (machine : Machine K V K) (end : Machine K V K × Progress (Node K V)) → MayCome (machine_plan same same hashes machine) end → Storing machine
         → Storing end.0 × TellsOne end.1
     next_storing (kinds.Key c) end (m, n, s) (present, of, fits) =
-        let k = steps_as as_machine m n (call_plan same same hashes c) end s in
+        let k = steps_as as_machine Took value_at m n (call_plan same same hashes c) end s in
         let after = calls_keep_their_kind same same hashes present missing.Puts takes.Nothing c fits m n k.0 k.1 in
         subst (λ (e : Machine K V K × Progress (Node K V)). Storing e.0 × TellsOne e.1) (sym k.2) ((present, of, after.0), tells_one present of k.0.1 after.1)
     next_storing (kinds.Reserve r) end may is = absurd is

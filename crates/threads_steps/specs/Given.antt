@@ -1,4 +1,5 @@
 -- The words of the crates below, given on to the crates above: these list this crate in place of those.
+pub use Rattle.map_measures.specs.ByKey.ByKey
 pub use Rattle.owner_calls.specs.Owned.Owned as OwnedOwned
 pub use Rattle.seize_callers.specs.Kept as SeizeCallersKept
 pub use Rattle.threads_rule.specs.CallKinds.Answers as CallKindsAnswers

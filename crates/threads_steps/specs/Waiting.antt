@@ -1,6 +1,12 @@
--- What a call may have done last for which others wait.
-use Rattle.std.specs.Prelude.{Bool, true, false}
+-- Which call holds up others that wait, and which one may have let them on by its last step.
+use Rattle.std.specs.Prelude.{◌≡◌, ℕ, suc, ◌<◌, ◌^◌, ◌||◌, Bool, true, false}
+use Rattle.seize_words.specs.OneMemory.Mem.{Mem, Took, value_at}
+use Rattle.seize_words.specs.OneMemory.Plan.{Steps}
 use Rattle.map_tables.specs.Chunks.{is_incremental}
+use Rattle.map_tables.specs.declared.node.Node.{Node}
+use Rattle.map_tables.specs.declared.table.Table.{Table}
+use Rattle.map_machines.specs.declared.yielding.Yielding.{Yielding}
+use Rattle.map_machines.specs.Copier.{copier_plan}
 use Rattle.map_machines.specs.declared.copier.Copier.{Copier}
 use Rattle.map_machines.specs.declared.copier.Copying.{Copying}
 use Rattle.map_machines.specs.declared.copier.Copying.TheVariants as copying
@@ -12,6 +18,24 @@ use Rattle.papaya_raw.specs.declared.machines.call.Calling.{Calling}
 use Rattle.papaya_raw.specs.declared.machines.call.Calling.TheVariants as calling
 use Rattle.papaya_raw.specs.declared.machines.machine.Machine.{Machine}
 use Rattle.papaya_raw.specs.declared.machines.machine.Machine.TheVariants.{Key, Reserve, Sweep, Count}
+
+-- There a copying holds others up: in incremental mode it has a pair in hand, whose place it has marked, or a mark or a claim to take back; in either mode it is
+-- to give a table up, or to say that one is the root.
+abbrev pub point_holds_up : Bool → Copying → Bool
+point_holds_up incremental (copying.Probes word key table probe) = incremental
+point_holds_up incremental (copying.Puts word key table probe) = incremental
+point_holds_up incremental (copying.Covers word) = incremental
+point_holds_up incremental (copying.Passes word key table) = incremental
+point_holds_up incremental (copying.Grows word key making) = incremental
+point_holds_up incremental (copying.Tallies word fault) = incremental
+point_holds_up incremental (copying.Unmarks word fault) = incremental
+point_holds_up incremental (copying.Unclaims fault) = incremental
+point_holds_up incremental copying.Aborts = true
+point_holds_up incremental copying.Announces = true
+point_holds_up incremental point = false
+
+abbrev pub copying_holds_up : Copier → Bool
+copying_holds_up copier = point_holds_up (is_incremental copier.setting.mode) copier.stands
 
 -- There a copying stands once a pair is COPIED, in incremental mode, and it goes on to the next place, or counts; once it has given its table up, or made it the
 -- root; and once it has taken its mark back, and gives up.
@@ -26,7 +50,17 @@ point_has_let_on incremental point = false
 abbrev pub copying_has_let_on : Copier → Bool
 copying_has_let_on copier = point_has_let_on (is_incremental copier.setting.mode) copier.stands
 
--- the same of the copying of a call on a key,
+-- it does the one, or has done the other
+abbrev pub holds_up_or_has_let_on : Copier → Bool
+holds_up_or_has_let_on copier = copying_holds_up copier || copying_has_let_on copier
+
+-- one that holds others up does so after its next step, too, or has let them on by it
+abbrev pub HoldersLetOn : {K : Type 0} → (V : Type 0) → (K → ℕ) → Type 0
+HoldersLetOn {K} V hash =
+    (p : Copier) (m m2 : Mem (Node K V)) (end : Copier × Yielding (Node K V) Table) → suc p.done < 2 ^ 64 → copying_holds_up p ≡ true
+    → Steps Took value_at m (copier_plan hash p) m2 end → holds_up_or_has_let_on end.0 ≡ true
+
+-- the copying of a call on a key has let others on,
 abbrev pub key_has_let_on : Calling → Bool
 key_has_let_on (calling.Helps copier goal) = copying_has_let_on copier
 key_has_let_on (calling.Copies copier) = copying_has_let_on copier

@@ -2,6 +2,7 @@
 #![tactic(auto)]
 
 mod finding;
+pub mod law;
 mod turns;
 mod waiting;
 mod within;

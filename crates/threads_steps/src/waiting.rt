@@ -58,7 +58,12 @@ impl<'s> Waiter<'s> {
     /// Goes by what a step of this call has told. Where that waits, it is to be taken again once this returns; else the others are woken, if they may have waited
     /// for it.
     #[inline(always)]
-    pub fn heeds<R: Wait, T, K, V>(&mut self, rt: &R, told: &Progress<T>, machine: &Machine<K, V>) {
+    pub fn heeds<R: Wait, T, K, V, Q>(
+        &mut self,
+        rt: &R,
+        told: &Progress<T>,
+        machine: &Machine<K, V, Q>,
+    ) {
         if matches!(told, Progress::Waits) {
             self.waits(rt);
         } else if self.sleepers.count() != 0 {
@@ -88,7 +93,7 @@ impl<'s> Waiter<'s> {
     /// free here it has seen what was done, or sleeps.
     #[cold]
     #[inline(never)]
-    fn lets_on<R: Wait, K, V>(&mut self, rt: &R, machine: &Machine<K, V>) {
+    fn lets_on<R: Wait, K, V, Q>(&mut self, rt: &R, machine: &Machine<K, V, Q>) {
         if let Some(lock) = self.lock.take() {
             drop(lock);
             self.sleepers.count.fetch_sub(1, SeqCst);
@@ -112,7 +117,7 @@ fn copying_has(copier: &Copier) -> bool
 }
 
 /// Tells whether others may have waited for what a call has done last.
-fn has_let_on<K, V>(machine: &Machine<K, V>) -> bool
+fn has_let_on<K, V, Q>(machine: &Machine<K, V, Q>) -> bool
     ensures { result ≡ call_has_let_on machine.now }
 {
     match machine {

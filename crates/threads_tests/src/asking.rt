@@ -48,7 +48,7 @@ fn removes<R: Wait>(
     let mut removed = 0u64;
     let mut refused = false;
     for key in 0..KEYS {
-        match session.remove_if(rt, key, |_, there| *there == value) {
+        match session.remove_if(rt, &key, |_, there| *there == value) {
             Ok(true) => removed = u64::wrapping_add(removed, 1),
             Ok(false) => {}
             Err(_) => refused = true,

@@ -49,7 +49,7 @@ fn removes<R: Wait>(rt: &R, session: &mut SessionBase<'_, u64, u64, Hashing>) ->
     let mut removed = 0u64;
     let mut refused = false;
     for key in 0..KEYS {
-        match session.remove(rt, key) {
+        match session.remove(rt, &key) {
             Ok(Some(taken)) => {
                 if *session.pair(taken).0 == key {
                     removed = u64::wrapping_add(removed, 1);

@@ -90,10 +90,10 @@ impl<'m, K: Eq + Hash + Drop, S: Hashes<K>> SharedSet<'m, K, S> {
     }
 
     /// Takes the element out that equals this key, with this guard, and answers whether there was one. The faults are those of `insert`; then the set has not changed.
-    pub fn remove<R: Wait>(
+    pub fn remove<R: Wait, Q: Form<K, S>>(
         &self,
         rt: &R,
-        key: K,
+        key: &Q,
         guard: &mut SetSession<'_, K, S>,
     ) -> Result<bool, Fault>
         requires one_map { OneMap (home_of guard.old.session.number guard.old.session.base.caller)
@@ -101,8 +101,8 @@ impl<'m, K: Eq + Hash + Drop, S: Hashes<K>> SharedSet<'m, K, S> {
         ensures keeps { KeepsMap guard.old.session guard.new.session }
         ensures own { IfOk result (λ _. guard.old.session.number ≡ self.now.map.number) }
         ensures foreign { guard.old.session.number ≢ self.now.map.number → IfErr result (λ fault. fault ≡ ForeignGuard) × (guard.new ≡ guard.old) }
-        ensures taken { IfOk result (λ there. SetGaveUp K.eq S.hash key there guard.old.session.base.caller guard.new.session.base.caller) }
-        ensures refused { guard.old.session.number ≡ self.now.map.number → IfErr result (λ fault. WasRefused K.eq S.hash (Remove key) fault guard.old.session.base.caller guard.new.session.base.caller) }
+        ensures taken { IfOk result (λ there. SetGaveUp K.eq S.hash (Q.stands_for key.now) there guard.old.session.base.caller guard.new.session.base.caller) }
+        ensures refused { guard.old.session.number ≡ self.now.map.number → IfErr result (λ fault. WasRefused K.eq S.hash (Remove (Q.stands_for key.now)) fault guard.old.session.base.caller guard.new.session.base.caller) }
     {
         if guard.number() != self.map.number() {
             return Err(Fault::ForeignGuard);

@@ -11,7 +11,7 @@ ghost use Rattle.seize_words.specs.declared.fault.Fault.TheVariants.{ForeignGuar
 
 use crate::shared::SharedMap;
 use map_tables::Hashes;
-use papaya_sessions::Session;
+use papaya_sessions::{Form, Session};
 use seize_words::Fault;
 use std::hash::Hash;
 use std::sync::Wait;
@@ -47,10 +47,10 @@ impl<'m, K: Eq + Hash + Drop, V: Drop, S: Hashes<K>> SharedMap<'m, K, V, S> {
 
     /// Removes the pair of a key with this guard, if the test says yes of it, and answers whether it has. The test is called again where another pair of the key has taken
     /// the place of the first. The faults are those of `try_insert_with`; no pair was removed then.
-    pub fn remove_if<R: Wait, F: Fn(&K, &V) -> bool + Drop>(
+    pub fn remove_if<R: Wait, Q: Form<K, S>, F: Fn(&K, &V) -> bool + Drop>(
         &self,
         rt: &R,
-        key: K,
+        key: &Q,
         test: F,
         guard: &mut Session<'_, K, V, S>,
     ) -> Result<bool, Fault>
@@ -60,11 +60,11 @@ impl<'m, K: Eq + Hash + Drop, V: Drop, S: Hashes<K>> SharedMap<'m, K, V, S> {
         ensures keeps { KeepsMap guard.old guard.new }
         ensures own { IfOk result (λ _. guard.old.number ≡ self.now.number) }
         ensures foreign { guard.old.number ≢ self.now.number → IfErr result (λ fault. fault ≡ ForeignGuard) × (guard.new ≡ guard.old) }
-        ensures removed { IfOk result (λ removed. HasRemovedIf K.eq S.hash key removed guard.old.base.caller guard.new.base.caller) }
+        ensures removed { IfOk result (λ removed. HasRemovedIf K.eq S.hash (Q.stands_for key.now) removed guard.old.base.caller guard.new.base.caller) }
         ensures asked { guard.old.number ≡ self.now.number
-            → HasAsked K.eq S.hash (TestSays (MayTest F.Fn test)) (RemoveIf key) guard.old.base.caller.seat.view guard.new.base.caller.seat.view }
+            → HasAsked K.eq S.hash (TestSays (MayTest F.Fn test)) (RemoveIf (Q.stands_for key.now)) guard.old.base.caller.seat.view guard.new.base.caller.seat.view }
         ensures refused { guard.old.number ≡ self.now.number
-            → IfErr result (λ fault. HasBeenRefused K.eq S.hash (RemoveIf key) fault guard.old.base.caller guard.new.base.caller) }
+            → IfErr result (λ fault. HasBeenRefused K.eq S.hash (RemoveIf (Q.stands_for key.now)) fault guard.old.base.caller guard.new.base.caller) }
     {
         if guard.number() != self.number {
             return Err(Fault::ForeignGuard);

@@ -9,7 +9,7 @@ ghost use Rattle.seize_words.specs.declared.fault.Fault.TheVariants.{ForeignGuar
 
 use crate::shared::SharedMap;
 use map_tables::Hashes;
-use papaya_sessions::{Attempt, Session};
+use papaya_sessions::{Attempt, Form, Session};
 use seize_words::{Fault, Refused};
 use std::hash::Hash;
 use std::sync::Wait;
@@ -73,10 +73,10 @@ impl<'m, K: Eq + Hash + Drop, V: Drop, S: Hashes<K>> SharedMap<'m, K, V, S> {
 
     /// Removes the pair of a key with this guard, and answers whether there was one. It is dropped once no section that was open before holds it. The faults are those of
     /// `insert`; then no pair was removed.
-    pub fn remove<R: Wait>(
+    pub fn remove<R: Wait, Q: Form<K, S>>(
         &self,
         rt: &R,
-        key: K,
+        key: &Q,
         guard: &mut Session<'_, K, V, S>,
     ) -> Result<bool, Fault>
         requires one_map { OneMap (home_of guard.old.number guard.old.base.caller)
@@ -84,8 +84,8 @@ impl<'m, K: Eq + Hash + Drop, V: Drop, S: Hashes<K>> SharedMap<'m, K, V, S> {
         ensures keeps { KeepsMap guard.old guard.new }
         ensures own { IfOk result (λ _. guard.old.number ≡ self.now.number) }
         ensures foreign { guard.old.number ≢ self.now.number → IfErr result (λ fault. fault ≡ ForeignGuard) × (guard.new ≡ guard.old) }
-        ensures removed { IfOk result (λ removed. MapGaveUp K.eq S.hash key removed guard.old.base.caller guard.new.base.caller) }
-        ensures refused { guard.old.number ≡ self.now.number → IfErr result (λ fault. WasRefused K.eq S.hash (Remove key) fault guard.old.base.caller guard.new.base.caller) }
+        ensures removed { IfOk result (λ removed. MapGaveUp K.eq S.hash (Q.stands_for key.now) removed guard.old.base.caller guard.new.base.caller) }
+        ensures refused { guard.old.number ≡ self.now.number → IfErr result (λ fault. WasRefused K.eq S.hash (Remove (Q.stands_for key.now)) fault guard.old.base.caller guard.new.base.caller) }
     {
         if guard.number() != self.number {
             return Err(Fault::ForeignGuard);

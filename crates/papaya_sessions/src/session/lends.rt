@@ -15,14 +15,19 @@ use map_tables::Hashes;
 use seize_words::Fault;
 use std::hash::Hash;
 use std::sync::Wait;
+use threads_updates::Form;
 
 impl<'m, K: Eq + Hash + Drop, V: Drop, S: Hashes<K>> Session<'m, K, V, S> {
     /// Removes the pair of a key, and lends it, if there was one, for as long as the session is borrowed. It is dropped once no section that was open before holds it. The
     /// faults are `Fault::Capacity` and `Fault::Memory`; then no pair was removed.
-    pub fn remove_entry<R: Wait>(&mut self, rt: &R, key: K) -> Result<Option<(&K, &V)>, Fault>
+    pub fn remove_entry<R: Wait, Q: Form<K, S>>(
+        &mut self,
+        rt: &R,
+        key: &Q,
+    ) -> Result<Option<(&K, &V)>, Fault>
         ensures* removed { sem 𝓛 (EndsSo K.row V.row S.row K.PartialEq S.Hashes self.entry (λ now. KeepsMap self.old now
-            × IfOk result (λ taken. MapGaveUpPair K.eq S.hash key (option_map (λ pair. (pair.0.now, pair.1.now)) taken) self.old.base.caller now.base.caller)
-            × IfErr result (λ fault. WasRefused K.eq S.hash (Remove key) fault self.old.base.caller now.base.caller))) }
+            × IfOk result (λ taken. MapGaveUpPair K.eq S.hash (Q.stands_for key.now) (option_map (λ pair. (pair.0.now, pair.1.now)) taken) self.old.base.caller now.base.caller)
+            × IfErr result (λ fault. WasRefused K.eq S.hash (Remove (Q.stands_for key.now)) fault self.old.base.caller now.base.caller))) }
     {
         match self.base.remove(rt, key) {
             Ok(Some(taken)) => Ok(Some(self.base.pair(taken))),

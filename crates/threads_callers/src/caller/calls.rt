@@ -5,8 +5,9 @@ ghost use Rattle.threads_errands.specs.Given.StepsAsking.{HasAnswered, MakingSay
 ghost use Rattle.threads_errands.specs.Given.ErrandsCalling.{HasCalled, IsAnswerBy, MayCall, MayDoAs, wanted_of};
 ghost use Rattle.threads_errands.specs.Given.ErrandsCounting.{HasCounted, MayCount};
 ghost use Rattle.threads_errands.specs.Given.CallKindsKinds.{Stage};
-ghost use Rattle.threads_errands.specs.Given.ActsActs.{Remove};
+ghost use Rattle.threads_errands.specs.Given.ActsActs.{Remove, RemoveIf};
 ghost use Rattle.threads_errands.specs.Given.StepsStoring.{making};
+ghost use Rattle.papaya_raw.specs.CallAsks.{removing_if};
 ghost use Rattle.papaya_raw.specs.CallPoints.{removing};
 ghost use Rattle.papaya_raw.specs.declared.machines.machine.Machine.TheVariants.{Key as KeyMachine};
 ghost use Rattle.threads_errands.specs.Given.ErrandsLooking.{HasFound, MayLook};
@@ -112,17 +113,17 @@ impl<'a, K: Eq + Hash + Drop, V: Drop, S: Hashes<K>> MapCaller<'a, K, V, S> {
         ran
     }
 
-    /// Removes the pair of this key within its section, from the map that it knows, and answers what the call has told.
-    pub fn removes<R: Wait>(
+    /// Removes the pair of the key for which this stands within its section, from the map that it knows, and answers what the call has told.
+    pub fn removes<R: Wait, Q: Equivalent<K>>(
         &mut self,
         rt: &R,
         hasher: &S,
         setting: Setting,
         hash: u64,
-        key: K,
+        key: &Q,
     ) -> Result<Answer, Fault>
-        requires may { MayCall K.eq S.hash hasher.now (KeyMachine (removing setting hash key)) self.old.seat.view }
-        ensures called { HasCalled K.eq S.hash (Remove key) result None self.old.seat.view self.new.seat.view }
+        requires may { MayCall K.eq S.hash hasher.now (KeyMachine (removing setting hash (Q.stands_for key.now))) self.old.seat.view }
+        ensures called { HasCalled K.eq S.hash (Remove (Q.stands_for key.now)) result None self.old.seat.view self.new.seat.view }
         ensures blocks { self.new.blocks ≡ self.old.blocks }
     {
         self.blocks.errand(
@@ -185,27 +186,30 @@ impl<'a, K: Eq + Hash + Drop, V: Drop, S: Hashes<K>> MapCaller<'a, K, V, S> {
         ran
     }
 
-    /// Removes the pair of the key, if this test says yes of it.
-    pub fn removes_if<R: Wait, F: Fn(&K, &V) -> bool>(
+    /// Removes the pair of the key for which this stands, if this test says yes of it.
+    pub fn removes_if<R: Wait, Q: Equivalent<K>, F: Fn(&K, &V) -> bool>(
         &mut self,
         rt: &R,
         hasher: &S,
-        machine: Machine<K, V>,
+        setting: Setting,
+        hash: u64,
+        key: &Q,
         test: &F,
     ) -> Ran<K, V>
-        requires may { (s : Stage) × MayDoAs K.eq S.hash kind_that_tests s hasher.now machine self.old.seat.view }
+        requires may { (s : Stage) × MayDoAs K.eq S.hash kind_that_tests s hasher.now (KeyMachine (removing_if setting hash (Q.stands_for key.now))) self.old.seat.view }
         requires callable { F.IsAlwaysCallable test.now }
-        ensures answered { HasAnswered K.eq S.hash (TestSays (MayTest F.Fn test.now)) (wanted_of machine) result.told self.old.seat.view self.new.seat.view }
+        ensures answered { HasAnswered K.eq S.hash (TestSays (MayTest F.Fn test.now)) (RemoveIf (Q.stands_for key.now)) result.told self.old.seat.view self.new.seat.view }
         ensures blocks { self.new.blocks ≡ self.old.blocks }
     {
-        let mut machine = machine;
         let ran = self.blocks.errand(
             &mut self.seat,
             RemovesIf {
                 rt,
                 sleepers: self.sleepers,
                 hasher,
-                machine: &mut machine,
+                setting,
+                hash,
+                key,
                 near: self.near,
                 test,
             },

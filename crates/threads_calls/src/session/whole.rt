@@ -13,7 +13,7 @@ use papaya_raw::machines::{Machine, Reserve, Sum, Sweep};
 use seize_words::Fault;
 use std::hash::Hash;
 use std::sync::Wait;
-use threads_callers::Ran;
+use threads_callers::told_of;
 
 impl<'a, K: Eq + Hash + Drop, V: Drop, S: Hashes<K>> SessionBase<'a, K, V, S> {
     /// Counts the pairs within its section, a shard of the map's count a step: while others change the map it may answer what was never so at one moment.
@@ -56,13 +56,7 @@ impl<'a, K: Eq + Hash + Drop, V: Drop, S: Hashes<K>> SessionBase<'a, K, V, S> {
         let setting = setting_in(self.setting, self.slot);
         let call = Reserve::new(setting, additional);
         let ran = self.caller.does(rt, self.hasher, Machine::Reserve(call));
-        let Ran {
-            told,
-            unstored,
-            near: _,
-        } = ran;
-        drop(unstored);
-        match told {
+        match told_of(ran) {
             Ok(_) => Ok(()),
             Err(fault) => Err(fault),
         }
@@ -82,13 +76,7 @@ impl<'a, K: Eq + Hash + Drop, V: Drop, S: Hashes<K>> SessionBase<'a, K, V, S> {
         let setting = setting_in(self.setting, self.slot);
         let call = Sweep::clear(setting);
         let ran = self.caller.does(rt, self.hasher, Machine::Sweep(call));
-        let Ran {
-            told,
-            unstored,
-            near: _,
-        } = ran;
-        drop(unstored);
-        match told {
+        match told_of(ran) {
             Ok(_) => Ok(()),
             Err(fault) => Err(fault),
         }

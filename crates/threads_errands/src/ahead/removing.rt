@@ -8,25 +8,37 @@ ghost use Rattle.papaya_raw.specs.declared.machines.call.Calling.TheVariants as 
 
 use crate::ahead::Ahead;
 use map_straight::{RemovalAt, remove};
-use map_tables::{Hashes, Setting};
+use map_tables::{Equivalent, Hashes, Setting};
 use std::hash::Hash;
 
 impl<'a, K: Eq + Hash, V, S: Hashes<K>> Ahead<'a, K, V, S> {
-    /// Removes the pair of its call's key, as far as straight code goes.
+    /// Removes the pair of its call's key, for which this stands, as far as straight code goes.
     #[inline(always)]
-    fn takes(&mut self, hasher: &S, setting: Setting, hash: u64, key: &K) -> RemovalAt
-        requires ahead { IsAhead K.eq S.hash hasher.now (seeking setting hash key.now untried at.Roots) self.old.seat.now.view }
-        ensures taken { HasTaken K.eq S.hash hasher.now setting hash key.now result self.old.seat.now.view self.new.seat.now.view }
+    fn takes<Q: Equivalent<K>>(
+        &mut self,
+        hasher: &S,
+        setting: Setting,
+        hash: u64,
+        key: &Q,
+    ) -> RemovalAt
+        requires ahead { IsAhead K.eq S.hash hasher.now (seeking setting hash (Q.stands_for key.now) untried at.Roots) self.old.seat.now.view }
+        ensures taken { HasTaken K.eq S.hash hasher.now setting hash (Q.stands_for key.now) result self.old.seat.now.view self.new.seat.now.view }
         ensures same { IsSameAhead self.old self.new }
     {
-        remove::<K, V, K, S, Self>(self, hasher, setting, hash, key)
+        remove::<K, V, Q, S, Self>(self, hasher, setting, hash, key)
     }
 
-    /// Removes the pair of its call's key, and ends the call, as far as straight code goes.
+    /// Removes the pair of its call's key, for which this stands, and ends the call, as far as straight code goes.
     #[inline(always)]
-    pub(crate) fn removes(&mut self, hasher: &S, setting: Setting, hash: u64, key: &K) -> RemovalAt
-        requires ahead { IsAhead K.eq S.hash hasher.now (seeking setting hash key.now untried at.Roots) self.old.seat.now.view }
-        ensures taken { HasTakenOut K.eq S.hash hasher.now setting hash key.now result self.old.seat.now.view self.new.seat.now.view }
+    pub(crate) fn removes<Q: Equivalent<K>>(
+        &mut self,
+        hasher: &S,
+        setting: Setting,
+        hash: u64,
+        key: &Q,
+    ) -> RemovalAt
+        requires ahead { IsAhead K.eq S.hash hasher.now (seeking setting hash (Q.stands_for key.now) untried at.Roots) self.old.seat.now.view }
+        ensures taken { HasTakenOut K.eq S.hash hasher.now setting hash (Q.stands_for key.now) result self.old.seat.now.view self.new.seat.now.view }
         ensures same { IsSameAhead self.old self.new }
     {
         match self.takes(hasher, setting, hash, key) {

@@ -2,11 +2,13 @@
 ghost use Rattle.std.specs.Prelude.{◌≡◌};
 ghost use Rattle.threads_errands.specs.Ahead.{CatchesUp, HasEndedSo, IsEnding, IsSameAhead, LiesAhead, MakesNext, StandsAt};
 ghost use Rattle.papaya_raw.specs.declared.machines.machine.Machine.{Machine as AnyMachine};
+ghost use Rattle.threads_steps.specs.Given.ByKey.{by_key};
 
 use crate::ahead::Ahead;
 use crate::turns::{CatchingUp, EndingCall, Ends, Points, Reaching};
-use map_tables::Hashes;
+use map_tables::{Equivalent, Hashes};
 use papaya_raw::machines::{KeyAnswer, Machine};
+use std::hash::Hash;
 use std::marker::Brand;
 
 impl<'a, K: Eq, V, S: Hashes<K>> Ahead<'a, K, V, S> {
@@ -18,25 +20,6 @@ impl<'a, K: Eq, V, S: Hashes<K>> Ahead<'a, K, V, S> {
         ensures same { IsSameAhead self.old self.new }
     {
         self.blocks.turn::<CatchingUp>(&mut *self.seat);
-    }
-
-    /// Takes the turns up to the point where the code stands, as it is picked.
-    fn stands_as<B: Points<K, V>>(&mut self, _hasher: &S, _machine: &Machine<K, V>)
-        requires picked { B.point _machine.now × ((machine : AnyMachine K V K) → B.point machine → machine ≡ _machine.now) }
-        requires ahead { LiesAhead K.eq S.hash _hasher.now _machine.now self.old.seat.now.view }
-        ensures stands { StandsAt _machine.now self.old.seat.now.view self.new.seat.now.view }
-        ensures same { IsSameAhead self.old self.new }
-    {
-        self.blocks.turn::<Reaching<B>>(&mut *self.seat);
-    }
-
-    /// Takes the turns up to the point where the code stands.
-    pub(crate) fn stands(&mut self, hasher: &S, machine: &Machine<K, V>)
-        requires ahead { LiesAhead K.eq S.hash hasher.now machine.now self.old.seat.now.view }
-        ensures stands { StandsAt machine.now self.old.seat.now.view self.new.seat.now.view }
-        ensures same { IsSameAhead self.old self.new }
-    {
-        self.stands_as::<Brand>(hasher, machine);
     }
 
     /// Takes the turns with which its call ends, where the code has ended it, with this answer, as it is picked.
@@ -57,5 +40,30 @@ impl<'a, K: Eq, V, S: Hashes<K>> Ahead<'a, K, V, S> {
         ensures same { IsSameAhead self.old self.new }
     {
         self.ends_as::<Brand>(answer);
+    }
+}
+
+impl<'a, K: Eq + Hash, V, S: Hashes<K>> Ahead<'a, K, V, S> {
+    /// Takes the turns up to the point where the code stands, as it is picked.
+    fn stands_as<B: Points<K, V>, Q: Equivalent<K>>(
+        &mut self,
+        _hasher: &S,
+        _machine: &Machine<K, V, Q>,
+    )
+        requires picked { B.point (by_key Q.stands_for _machine.now) × ((machine : AnyMachine K V K) → B.point machine → machine ≡ (by_key Q.stands_for _machine.now)) }
+        requires ahead { LiesAhead K.eq S.hash _hasher.now (by_key Q.stands_for _machine.now) self.old.seat.now.view }
+        ensures stands { StandsAt (by_key Q.stands_for _machine.now) self.old.seat.now.view self.new.seat.now.view }
+        ensures same { IsSameAhead self.old self.new }
+    {
+        self.blocks.turn::<Reaching<B>>(&mut *self.seat);
+    }
+
+    /// Takes the turns up to the point where the code stands.
+    pub(crate) fn stands<Q: Equivalent<K>>(&mut self, hasher: &S, machine: &Machine<K, V, Q>)
+        requires ahead { LiesAhead K.eq S.hash hasher.now (by_key Q.stands_for machine.now) self.old.seat.now.view }
+        ensures stands { StandsAt (by_key Q.stands_for machine.now) self.old.seat.now.view self.new.seat.now.view }
+        ensures same { IsSameAhead self.old self.new }
+    {
+        self.stands_as::<Brand, Q>(hasher, machine);
     }
 }

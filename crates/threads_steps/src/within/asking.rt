@@ -10,6 +10,7 @@ ghost use Rattle.threads_steps.specs.declared.within.asking.Halt.TheVariants.{En
 ghost use Rattle.seize_words.specs.declared.fault.Fault.{Fault as AFault};
 ghost use Rattle.papaya_raw.specs.declared.machines.progress.Answer.{Answer as AnAnswer};
 ghost use Rattle.seize_words.specs.OneMemory.Word.{block_in};
+ghost use Rattle.map_measures.specs.ByKey.ByKey.{by_key};
 ghost use Rattle.map_tables.specs.declared.node.Node.TheVariants.{Pair};
 ghost use Rattle.threads_rule.specs.Views.Looks.{shown_in};
 ghost use Rattle.threads_rule.specs.Views.Begun.{replied};
@@ -19,7 +20,7 @@ ghost use Rattle.threads_rule.specs.declared.view.SeatWork.TheVariants.{Calls};
 use crate::turns::{Says, Telling};
 use crate::waiting::{Sleepers, Waiter};
 use crate::within::{Ran, Within};
-use map_tables::{Hashes, Node};
+use map_tables::{Equivalent, Hashes, Node};
 use papaya_raw::machines::{Answer, Machine, MachineReply, Progress};
 use seize_words::{Fault, Link, Look};
 use std::hash::Hash;
@@ -93,38 +94,80 @@ fn word_of(pair: Option<u64>) -> u64
 }
 
 impl<'a, K: Eq + Hash + Drop, V: Drop, S: Hashes<K>> Within<'a, K, V, S> {
-    /// Tells its call this, as it is picked.
-    pub(super) fn tells_as<B: Says<K, V>>(
+    /// Tells its call this, as it is picked by these.
+    pub(super) fn tells_as<B: Says<K, V>, Q>(
         &mut self,
-        _machine: &Machine<K, V>,
+        _machine: &Machine<K, V, Q>,
         _reply: &MachineReply<V>,
     )
-        requires machine { B.machine ≡ _machine.now }
-        requires reply { B.reply ≡ _reply.now }
         requires knows { (map : Map S) × (self.old.seat.now.view.map ≡ Some map) }
-        requires works { self.old.seat.now.view.work ≡ Calls _machine.now }
-        ensures told { self.new.seat.now.view ≡ replied self.old.seat.now.view _machine.now _reply.now }
+        requires works { self.old.seat.now.view.work ≡ Calls B.machine }
+        ensures told { self.new.seat.now.view ≡ replied self.old.seat.now.view B.machine B.reply }
         ensures same { IsSameSeat self.old self.new }
     {
         self.blocks.turn::<Telling<B>>(&mut *self.seat);
     }
 
+    /// Tells its call, which asks, something that fits, with whichever form of a key it was asked.
+    fn tells_by<Q: Equivalent<K>>(
+        &mut self,
+        _hasher: &S,
+        machine: &mut Machine<K, V, Q>,
+        pair: Option<u64>,
+        reply: MachineReply<V>,
+    )
+        requires asks { (k : Kind) × (s : Stage) × IsAsking k s _hasher.now pair (by_key Q.stands_for machine.old) self.old.seat.now.view × IsFit k.takes s.told pair reply }
+        ensures goes { (k : Kind) (s : Stage) → IsAsking k s _hasher.now pair (by_key Q.stands_for machine.old) self.old.seat.now.view → IsFit k.takes s.told pair reply
+            → IsUnderWay k (stage_after s pair reply) _hasher.now (by_key Q.stands_for machine.new) self.new.seat.now.view }
+        ensures told { self.new.seat.now.view ≡ replied self.old.seat.now.view (by_key Q.stands_for machine.old) reply }
+        ensures same { IsSameSeat self.old self.new }
+    {
+        self.tells_as::<Brand, Q>(machine, &reply);
+        let back = machine.reply(reply);
+        taken(back);
+    }
+
     /// Tells its call, which asks, something that fits.
     pub fn tells(
         &mut self,
-        _hasher: &S,
+        hasher: &S,
         machine: &mut Machine<K, V>,
         pair: Option<u64>,
         reply: MachineReply<V>,
     )
-        requires asks { (k : Kind) × (s : Stage) × IsAsking k s _hasher.now pair machine.old self.old.seat.now.view × IsFit k.takes s.told pair reply }
-        ensures goes { (k : Kind) (s : Stage) → IsAsking k s _hasher.now pair machine.old self.old.seat.now.view → IsFit k.takes s.told pair reply → IsUnderWay k (stage_after s pair reply) _hasher.now machine.new self.new.seat.now.view }
+        requires asks { (k : Kind) × (s : Stage) × IsAsking k s hasher.now pair machine.old self.old.seat.now.view × IsFit k.takes s.told pair reply }
+        ensures goes { (k : Kind) (s : Stage) → IsAsking k s hasher.now pair machine.old self.old.seat.now.view → IsFit k.takes s.told pair reply → IsUnderWay k (stage_after s pair reply) hasher.now machine.new self.new.seat.now.view }
         ensures told { self.new.seat.now.view ≡ replied self.old.seat.now.view machine.old reply }
         ensures same { IsSameSeat self.old self.new }
     {
-        self.tells_as::<Brand>(machine, &reply);
-        let back = machine.reply(reply);
-        taken(back);
+        self.tells_by(hasher, machine, pair, reply);
+    }
+
+    /// Takes the steps of its call until that asks, or has ended, with whichever form of a key it was asked. How many it takes is up to the others.
+    fn runs_on_by<R: Wait, Q: Equivalent<K>>(
+        &mut self,
+        rt: &R,
+        sleepers: &Sleepers,
+        hasher: &S,
+        machine: &mut Machine<K, V, Q>,
+    ) -> Halt
+        requires calls { (k : Kind) × (s : Stage) × IsUnderWay k s hasher.now (by_key Q.stands_for machine.old) self.old.seat.now.view }
+        ensures paused { (k : Kind) (s : Stage) → IsUnderWay k s hasher.now (by_key Q.stands_for machine.old) self.old.seat.now.view
+            → PausedSo k s hasher.now (by_key Q.stands_for machine.new) result self.old.seat.now.view self.new.seat.now.view }
+        ensures gone { (n : ℕ) × HasGone K.eq S.hash NoneSaid n self.old.seat.now.view self.new.seat.now.view }
+        ensures them { IsOfThem self.old.seat.now.view self.new.seat.now.view }
+        ensures stays { StaysThere self.old.seat.now.view self.new.seat.now.view }
+        ensures same { IsSameSeat self.old self.new }
+    {
+        let mut waiter = Waiter::new(sleepers);
+        for _ in rt.forever() {
+            let told = self.steps_by(machine, hasher);
+            waiter.heeds(rt, &told, machine);
+            if let Some(pause) = paused(told) {
+                return pause;
+            }
+        }
+        unreachable!()
     }
 
     /// Takes the steps of its call until that asks, or has ended. How many it takes is up to the others.
@@ -142,15 +185,7 @@ impl<'a, K: Eq + Hash + Drop, V: Drop, S: Hashes<K>> Within<'a, K, V, S> {
         ensures stays { StaysThere self.old.seat.now.view self.new.seat.now.view }
         ensures same { IsSameSeat self.old self.new }
     {
-        let mut waiter = Waiter::new(sleepers);
-        for _ in rt.forever() {
-            let told = self.steps(machine, hasher);
-            waiter.heeds(rt, &told, machine);
-            if let Some(pause) = paused(told) {
-                return pause;
-            }
-        }
-        unreachable!()
+        self.runs_on_by(rt, sleepers, hasher, machine)
     }
 
     /// Tells its call, which asks where the key is missing, the value that was made, and runs it to its end.
@@ -212,41 +247,41 @@ impl<'a, K: Eq + Hash + Drop, V: Drop, S: Hashes<K>> Within<'a, K, V, S> {
     }
 
     /// Tells its call, which asks, what a test says of the pair that it asks with.
-    fn says<F: Fn(&K, &V) -> bool>(
+    fn says<Q: Equivalent<K>, F: Fn(&K, &V) -> bool>(
         &mut self,
         hasher: &S,
-        machine: &mut Machine<K, V>,
+        machine: &mut Machine<K, V, Q>,
         pair: Option<u64>,
         test: &F,
     )
-        requires asks { (s : Stage) × IsAsking kind_that_tests s hasher.now pair machine.old self.old.seat.now.view }
+        requires asks { (s : Stage) × IsAsking kind_that_tests s hasher.now pair (by_key Q.stands_for machine.old) self.old.seat.now.view }
         requires callable { F.IsAlwaysCallable test.now }
-        ensures goes { (s : Stage) → IsAsking kind_that_tests s hasher.now pair machine.old self.old.seat.now.view → IsUnderWay kind_that_tests s hasher.now machine.new self.new.seat.now.view }
+        ensures goes { (s : Stage) → IsAsking kind_that_tests s hasher.now pair (by_key Q.stands_for machine.old) self.old.seat.now.view → IsUnderWay kind_that_tests s hasher.now (by_key Q.stands_for machine.new) self.new.seat.now.view }
         ensures told { WasReplied (TestSays (MayTest F.Fn test.now)) self.old.seat.now.view self.new.seat.now.view }
         ensures same { IsSameSeat self.old self.new }
     {
         let word = word_of(pair);
         let yes = self.tested(word, test);
-        self.tells(hasher, machine, pair, said(yes));
+        self.tells_by(hasher, machine, pair, said(yes));
     }
 
     /// Removes the pair of the key, if this test says yes of it. It asks again for each other pair that it meets.
-    pub fn removes_if<R: Wait, F: Fn(&K, &V) -> bool>(
+    pub fn removes_if<R: Wait, Q: Equivalent<K>, F: Fn(&K, &V) -> bool>(
         &mut self,
         rt: &R,
         sleepers: &Sleepers,
         hasher: &S,
-        machine: &mut Machine<K, V>,
+        machine: &mut Machine<K, V, Q>,
         test: &F,
     ) -> Ran<K, V>
-        requires may { (s : Stage) × MayDoAs K.eq S.hash kind_that_tests s hasher.now machine.old self.old.seat.now.view }
+        requires may { (s : Stage) × MayDoAs K.eq S.hash kind_that_tests s hasher.now (by_key Q.stands_for machine.old) self.old.seat.now.view }
         requires callable { F.IsAlwaysCallable test.now }
-        ensures answered { HasAnswered K.eq S.hash (TestSays (MayTest F.Fn test.now)) (wanted_of machine.old) result.told self.old.seat.now.view self.new.seat.now.view }
+        ensures answered { HasAnswered K.eq S.hash (TestSays (MayTest F.Fn test.now)) (wanted_of (by_key Q.stands_for machine.old)) result.told self.old.seat.now.view self.new.seat.now.view }
         ensures same { IsSameSeat self.old self.new }
     {
-        self.begins(machine);
+        self.begins_on_as::<Brand, Machine<K, V, Q>>(machine);
         for _ in rt.forever() {
-            match self.runs_on(rt, sleepers, hasher, machine) {
+            match self.runs_on_by(rt, sleepers, hasher, machine) {
                 Halt::Ended(told) => return self.ran(told, None),
                 Halt::Asks(pair) => self.says(hasher, machine, pair, test),
             }

@@ -5,16 +5,17 @@ ghost use Rattle.threads_rule.specs.Errands.Looking.{Begins, StaysThere};
 ghost use Rattle.threads_steps.specs.Made.{IsSameSeat};
 ghost use Rattle.threads_steps.specs.Steps.{HasStepped};
 ghost use Rattle.threads_steps.specs.Storing.{Since};
+ghost use Rattle.map_measures.specs.ByKey.ByKey.{by_key};
 ghost use Rattle.map_tables.specs.declared.node.Node.{Node};
 ghost use Rattle.threads_rule.specs.Views.Told.{pair_in};
 ghost use Rattle.threads_rule.specs.Views.Rule.{MayWant, section_of};
 ghost use Rattle.threads_rule.specs.declared.view.Map.{Map};
 ghost use Rattle.threads_rule.specs.declared.view.SeatWork.TheVariants.{Nothing as NoWork};
 
-use crate::turns::{Beginning, Stepping, Wants};
+use crate::turns::Stepping;
 use crate::waiting::{Sleepers, Waiter};
 use crate::within::Within;
-use map_tables::{Hashes, Node};
+use map_tables::{Equivalent, Hashes, Node};
 use papaya_raw::machines::{Answer, Machine, Progress};
 use seize_words::Fault;
 use std::hash::Hash;
@@ -60,11 +61,15 @@ impl<'a, K: Eq + Hash + Drop, V: Drop, S: Hashes<K>> Within<'a, K, V, S> {
         self.made = false;
     }
 
-    /// Takes the next step of its call, whichever that is.
-    pub fn steps(&mut self, machine: &mut Machine<K, V>, hasher: &S) -> Progress<Node<K, V>>
-        requires may { MayStep hasher.now machine.old self.old.seat.now.view }
+    /// Takes the next step of its call, whichever that is, and with whichever form of a key it is asked.
+    pub(super) fn steps_by<Q: Equivalent<K>>(
+        &mut self,
+        machine: &mut Machine<K, V, Q>,
+        hasher: &S,
+    ) -> Progress<Node<K, V>>
+        requires may { MayStep hasher.now (by_key Q.stands_for machine.old) self.old.seat.now.view }
         ensures by { HasStepped K.eq S.hash self.old.seat.now.view self.new.seat.now.view }
-        ensures stepped { StepsTo K.eq S.hash hasher.now machine.old machine.new result self.old.seat.now.view self.new.seat.now.view }
+        ensures stepped { StepsTo K.eq S.hash hasher.now (by_key Q.stands_for machine.old) (by_key Q.stands_for machine.new) result self.old.seat.now.view self.new.seat.now.view }
         ensures same { IsSameSeat self.old self.new }
     {
         self.begins_step();
@@ -76,8 +81,33 @@ impl<'a, K: Eq + Hash + Drop, V: Drop, S: Hashes<K>> Within<'a, K, V, S> {
         told
     }
 
+    /// Takes the next step of its call, whichever that is.
+    pub fn steps(&mut self, machine: &mut Machine<K, V>, hasher: &S) -> Progress<Node<K, V>>
+        requires may { MayStep hasher.now machine.old self.old.seat.now.view }
+        ensures by { HasStepped K.eq S.hash self.old.seat.now.view self.new.seat.now.view }
+        ensures stepped { StepsTo K.eq S.hash hasher.now machine.old machine.new result self.old.seat.now.view self.new.seat.now.view }
+        ensures same { IsSameSeat self.old self.new }
+    {
+        self.steps_by(machine, hasher)
+    }
+
+    /// Takes the next step of its call, which asks nothing, with whichever form of a key it is asked.
+    pub fn calls_by<Q: Equivalent<K>>(
+        &mut self,
+        machine: &mut Machine<K, V, Q>,
+        hasher: &S,
+    ) -> Progress<Node<K, V>>
+        requires calls { IsCalling hasher.now (by_key Q.stands_for machine.old) self.old.seat.now.view }
+        ensures told { CalledSo hasher.now (by_key Q.stands_for machine.new) result self.new.seat.now.view }
+        ensures like { sort_of (by_key Q.stands_for machine.new) ≡ sort_of (by_key Q.stands_for machine.old) }
+        ensures stepped { StepsTo K.eq S.hash hasher.now (by_key Q.stands_for machine.old) (by_key Q.stands_for machine.new) result self.old.seat.now.view self.new.seat.now.view }
+        ensures same { IsSameSeat self.old self.new }
+    {
+        self.steps_by(machine, hasher)
+    }
+
     /// Takes the next step of its call, which asks nothing.
-    pub fn calls(&mut self, machine: &mut Machine<K, V>, hasher: &S) -> Progress<Node<K, V>>
+    fn calls(&mut self, machine: &mut Machine<K, V>, hasher: &S) -> Progress<Node<K, V>>
         requires calls { IsCalling hasher.now machine.old self.old.seat.now.view }
         ensures told { CalledSo hasher.now machine.new result self.new.seat.now.view }
         ensures like { sort_of machine.new ≡ sort_of machine.old }
@@ -128,18 +158,6 @@ impl<'a, K: Eq + Hash + Drop, V: Drop, S: Hashes<K>> Within<'a, K, V, S> {
         unreachable!()
     }
 
-    /// Begins this call, as it is picked.
-    fn begins_as<B: Wants<K, V>>(&mut self, _machine: &Machine<K, V>)
-        requires wanted { B.wanted ≡ wanted_of _machine.now }
-        requires inside { (t : ℕ) × (section_of self.old.seat.now.view.under self.old.seat.now.view.slot ≡ Some t) }
-        requires knows { (map : Map S) × (self.old.seat.now.view.map ≡ Some map) × MayWant K.eq S.hash self.old.seat.now.view.under map (wanted_of _machine.now) }
-        requires free { self.old.seat.now.view.work ≡ NoWork }
-        ensures begins { Begins K.eq S.hash (wanted_of _machine.now) self.old.seat.now.view self.new.seat.now.view }
-        ensures same { IsSameSeat self.old self.new }
-    {
-        self.blocks.turn::<Beginning<B>>(&mut *self.seat);
-    }
-
     /// Begins this call on the map that it knows, within its section.
     pub fn begins(&mut self, machine: &Machine<K, V>)
         requires inside { (t : ℕ) × (section_of self.old.seat.now.view.under self.old.seat.now.view.slot ≡ Some t) }
@@ -148,7 +166,7 @@ impl<'a, K: Eq + Hash + Drop, V: Drop, S: Hashes<K>> Within<'a, K, V, S> {
         ensures begins { Begins K.eq S.hash (wanted_of machine.now) self.old.seat.now.view self.new.seat.now.view }
         ensures same { IsSameSeat self.old self.new }
     {
-        self.begins_as::<Brand>(machine);
+        self.begins_on_as::<Brand, Machine<K, V>>(machine);
     }
 
     /// Runs this call, which asks nothing, on the map that it knows.

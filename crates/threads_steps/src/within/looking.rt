@@ -19,7 +19,7 @@ use std::marker::Brand;
 use std::sync::Wait;
 
 impl<'a, K: Eq, V, S: Hashes<K>> Within<'a, K, V, S> {
-    /// Begins a call on this key, as it is picked.
+    /// Begins a call, as it is picked by this.
     pub(super) fn begins_on_as<B: Wants<K, V>, Q>(&mut self, _key: &Q)
         requires inside { (t : ℕ) × (section_of self.old.seat.now.view.under self.old.seat.now.view.slot ≡ Some t) }
         requires knows { (map : Map S) × (self.old.seat.now.view.map ≡ Some map) × MayWant K.eq S.hash self.old.seat.now.view.under map B.wanted }

@@ -71,7 +71,7 @@ impl<'a, K: Eq + Hash + Drop, V: Drop, S: Hashes<K>> Within<'a, K, V, S> {
         ensures same { IsSameSeat self.old self.new }
     {
         let reply = said(keeps);
-        self.tells_as::<Brand>(machine, &reply);
+        self.tells_as::<Brand, K>(machine, &reply);
         let back = machine.reply(reply);
         taken(back);
     }

@@ -2,7 +2,7 @@
 use Rattle.std.proofs.Common.{◌∷◌, [], map, rules, sym, subst}
 use Rattle.std.proofs.lemmas.List.{map-append}
 use Rattle.std.proofs.lemmas.List.Elements.{All-nil, All-push}
-use Rattle.map_forms.proofs.Items.{AreSoFar, none_yet, one_more, written_of}
+use Rattle.map_forms.proofs.SortedItems.{AreSoFar, none_yet, one_more, written_of}
 use Rattle.map_forms.proofs.arrays.array_of.Goals as goal
 
 pub loop-element-init : goal.loop-element-init

@@ -2,7 +2,7 @@
 use Rattle.std.specs.Prelude.{map, string_cmp}
 use Rattle.std.specs.BTreeMap.{IsOrdered}
 use Rattle.std.specs.List.{All}
-use Rattle.map_forms.proofs.Items.{AreSoFar}
+use Rattle.map_forms.proofs.SortedItems.{AreSoFar}
 use Rattle.map_forms.proofs.arrays.array_of.Given as goal
 
 -- the elements so far are in range, and their values stand beside their texts, in order

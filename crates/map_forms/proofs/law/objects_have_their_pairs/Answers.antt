@@ -1,4 +1,4 @@
-use Rattle.map_forms.proofs.Members.{objects_have_their_pairs, objects_have_no_order}
+use Rattle.map_forms.proofs.PairByPair.{objects_have_their_pairs, objects_have_no_order}
 use Rattle.map_forms.proofs.law.objects_have_their_pairs.Goals as goal
 
 pub returns : goal.returns

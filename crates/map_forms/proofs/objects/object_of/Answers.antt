@@ -1,7 +1,7 @@
 use Rattle.std.proofs.Common.{◌∙◌, ap, sym}
 use Rattle.std.proofs.lemmas.List.Elements.{All-push}
 use Rattle.serde_json.specs.Data.{put, no_members}
-use Rattle.map_forms.proofs.Members.{one_more}
+use Rattle.map_forms.proofs.PairByPair.{one_more}
 use Rattle.map_forms.proofs.objects.object_of.Goals as goal
 
 pub loop-key-preserved : goal.loop-key-preserved

@@ -12,7 +12,7 @@ pub begins_to_remove-requires : goal.begins_to_remove-requires
 begins_to_remove-requires g c =
     let x = c.args in let was = c.new-within.ensures.seat in
     let before : x.seat.now.view ≡ c.new-within.result.seat.now.view = cc was in record {
-      may = subst (λ (v : View g.row.K.Denot g.row.V.Denot g.row.S.Denot). MayCall g.K.PartialEq.eq g.S.Hashes.hash x.hasher.now (Key (removing x.setting x.hash x.key.now)) v) before c.requires.may;
+      may = subst (λ (v : View g.row.K.Denot g.row.V.Denot g.row.S.Denot). MayCall g.K.PartialEq.eq g.S.Hashes.hash x.hasher.now (Key (removing x.setting x.hash (g.Q.Equivalent.stands_for x.key.now))) v) before c.requires.may;
     }
 
 -- the seat is the one that was lent
@@ -31,12 +31,12 @@ returns-clause-begun g c =
     let was = c.new-within.ensures.seat in
     let before : c.new-within.result.seat.now.view ≡ c.args.seat.now.view = cc was in
     let after : c.begins_to_remove.new.self.seat.now.view ≡ c.seat-1.given.0.view = cc is in
-    subst (λ (v : View g.row.K.Denot g.row.V.Denot g.row.S.Denot). Begins g.K.PartialEq.eq g.S.Hashes.hash (Remove c.args.key.now) v c.seat-1.given.0.view) before
-    (subst (λ (w : View g.row.K.Denot g.row.V.Denot g.row.S.Denot). Begins g.K.PartialEq.eq g.S.Hashes.hash (Remove c.args.key.now) c.new-within.result.seat.now.view w) after c.begins_to_remove.ensures.begun)
+    subst (λ (v : View g.row.K.Denot g.row.V.Denot g.row.S.Denot). Begins g.K.PartialEq.eq g.S.Hashes.hash (Remove (g.Q.Equivalent.stands_for c.args.key.now)) v c.seat-1.given.0.view) before
+    (subst (λ (w : View g.row.K.Denot g.row.V.Denot g.row.S.Denot). Begins g.K.PartialEq.eq g.S.Hashes.hash (Remove (g.Q.Equivalent.stands_for c.args.key.now)) c.new-within.result.seat.now.view w) after c.begins_to_remove.ensures.begun)
 
 pub returns-clause-calls : goal.returns-clause-calls
 returns-clause-calls g c =
     let s = kept_same _ _ _ _ _ _ _ _ c.begins_to_remove.ensures.same in
     let is = c.seat-1.given.1 (sym (s.1 ∙ c.new-within.ensures.name)) in
     let after : c.begins_to_remove.new.self.seat.now.view ≡ c.seat-1.given.0.view = cc is in
-    let x = c.args in subst (λ (w : View g.row.K.Denot g.row.V.Denot g.row.S.Denot). IsCalling x.hasher.now (Key (removing x.setting x.hash x.key.now)) w) after c.begins_to_remove.ensures.calls
+    let x = c.args in subst (λ (w : View g.row.K.Denot g.row.V.Denot g.row.S.Denot). IsCalling x.hasher.now (Key (removing x.setting x.hash (g.Q.Equivalent.stands_for x.key.now))) w) after c.begins_to_remove.ensures.calls

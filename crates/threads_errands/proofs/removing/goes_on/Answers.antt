@@ -1,19 +1,28 @@
 use Rattle.std.proofs.Common.{sym, subst, ◌∙◌}
+use Rattle.map_tables.specs.declared.lent.Lent.{Lent}
 use Rattle.papaya_raw.specs.declared.machines.call.KeyCall.{KeyCall}
+use Rattle.threads_steps.specs.Given.ByKey.{key_call}
 use Rattle.threads_steps.proofs.Given.ErrandsBeginnings.{stays_on}
 use Rattle.threads_steps.proofs.Pausing.{ended_on}
 use Rattle.threads_errands.specs.Ahead.{IsAhead}
 use Rattle.threads_errands.proofs.Puts.{calling_there}
 use Rattle.threads_errands.proofs.removing.goes_on.Goals as goal
 
+-- asked with what stands for a key, lent, it is the call by that key
 pub stands-requires-clause-ahead : goal.stands-requires-clause-ahead
 stands-requires-clause-ahead g c =
-    subst (λ (x : KeyCall g.row.K.Denot g.row.V.Denot g.row.K.Denot). IsAhead g.K.PartialEq.eq g.S.Hashes.hash c.args.hasher.now x c.args.seat.now.view) (sym c.removal_of.ensures) c.requires.ahead
+    subst
+    (λ (x : KeyCall g.row.K.Denot g.row.V.Denot (Lent g.row.K.Denot g.row.Q.Denot)).
+    IsAhead g.K.PartialEq.eq g.S.Hashes.hash c.args.hasher.now (key_call (λ (q : Lent g.row.K.Denot g.row.Q.Denot). g.Q.Equivalent.stands_for q.asked.now) x) c.args.seat.now.view)
+    (sym c.removal_of-call.ensures) c.requires.ahead
 
 pub runs-ran-requires-clause-calls : goal.runs-ran-requires-clause-calls
 runs-ran-requires-clause-calls g c =
-    calling_there g.K.PartialEq.eq g.S.Hashes.hash c.args.hasher.now c.removal_of.result c.args.seat.now.view c.stands.new.seat.view
-    (subst (λ (x : KeyCall g.row.K.Denot g.row.V.Denot g.row.K.Denot). IsAhead g.K.PartialEq.eq g.S.Hashes.hash c.args.hasher.now x c.args.seat.now.view) (sym c.removal_of.ensures) c.requires.ahead)
+    let stands_for = λ (q : Lent g.row.K.Denot g.row.Q.Denot). g.Q.Equivalent.stands_for q.asked.now in
+    calling_there g.K.PartialEq.eq g.S.Hashes.hash c.args.hasher.now (key_call stands_for c.removal_of-call.result) c.args.seat.now.view c.stands.new.seat.view
+    (subst
+    (λ (x : KeyCall g.row.K.Denot g.row.V.Denot (Lent g.row.K.Denot g.row.Q.Denot)). IsAhead g.K.PartialEq.eq g.S.Hashes.hash c.args.hasher.now (key_call stands_for x) c.args.seat.now.view)
+    (sym c.removal_of-call.ensures) c.requires.ahead)
     c.stands.ensures.stands
 
 pub returns-clause-ended : goal.returns-clause-ended

@@ -12,7 +12,7 @@ pub removes-requires : goal.removes-requires
 removes-requires g c =
     let x = c.args in let was = c.new-ahead.ensures.seat in
     let before : x.seat.now.view ≡ c.new-ahead.result.seat.now.view = cc was in record {
-      ahead = subst (λ (v : View g.row.K.Denot g.row.V.Denot g.row.S.Denot). IsAhead g.K.PartialEq.eq g.S.Hashes.hash x.hasher.now (seeking x.setting x.hash x.key.now untried at.Roots) v) before c.requires.ahead;
+      ahead = subst (λ (v : View g.row.K.Denot g.row.V.Denot g.row.S.Denot). IsAhead g.K.PartialEq.eq g.S.Hashes.hash x.hasher.now (seeking x.setting x.hash (g.Q.Equivalent.stands_for x.key.now) untried at.Roots) v) before c.requires.ahead;
     }
 
 -- the seat is the one that was lent
@@ -31,6 +31,6 @@ returns-clause-taken g c =
     let x = c.args in let was = c.new-ahead.ensures.seat in
     let before : c.new-ahead.result.seat.now.view ≡ x.seat.now.view = cc was in
     let after : c.removes.new.self.seat.now.view ≡ c.seat-1.given.0.view = cc is in
-    subst (λ (v : View g.row.K.Denot g.row.V.Denot g.row.S.Denot). HasTakenOut g.K.PartialEq.eq g.S.Hashes.hash x.hasher.now x.setting x.hash x.key.now c.removes.result v c.seat-1.given.0.view) before
-    (subst (λ (w : View g.row.K.Denot g.row.V.Denot g.row.S.Denot). HasTakenOut g.K.PartialEq.eq g.S.Hashes.hash x.hasher.now x.setting x.hash x.key.now c.removes.result c.new-ahead.result.seat.now.view w) after
+    subst (λ (v : View g.row.K.Denot g.row.V.Denot g.row.S.Denot). HasTakenOut g.K.PartialEq.eq g.S.Hashes.hash x.hasher.now x.setting x.hash (g.Q.Equivalent.stands_for x.key.now) c.removes.result v c.seat-1.given.0.view) before
+    (subst (λ (w : View g.row.K.Denot g.row.V.Denot g.row.S.Denot). HasTakenOut g.K.PartialEq.eq g.S.Hashes.hash x.hasher.now x.setting x.hash (g.Q.Equivalent.stands_for x.key.now) c.removes.result c.new-ahead.result.seat.now.view w) after
     c.removes.ensures.taken)

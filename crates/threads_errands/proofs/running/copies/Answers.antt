@@ -1,4 +1,5 @@
 use Rattle.std.proofs.Common.{◌≡◌, sym, subst, ◌∙◌}
+use Rattle.threads_steps.specs.Given.ByKey.{key_call}
 use Rattle.threads_steps.specs.Given.ViewsDeclared.view.View.{View}
 use Rattle.threads_steps.proofs.Given.Keeping.{kept_same}
 use Rattle.threads_errands.specs.Ahead.{IsAhead}
@@ -9,7 +10,7 @@ pub helps-requires : goal.helps-requires
 helps-requires g c =
     let was = c.new-ahead.ensures.seat in
     let before : c.args.seat.now.view ≡ c.new-ahead.result.seat.now.view = cc was in record {
-      ahead = subst (λ (v : View g.row.K.Denot g.row.V.Denot g.row.S.Denot). IsAhead g.K.PartialEq.eq g.S.Hashes.hash c.args.hasher.now c.args.call.now v) before c.requires.ahead;
+      ahead = subst (λ (v : View g.row.K.Denot g.row.V.Denot g.row.S.Denot). IsAhead g.K.PartialEq.eq g.S.Hashes.hash c.args.hasher.now (key_call g.Q.Equivalent.stands_for c.args.call.now) v) before c.requires.ahead;
     }
 
 -- the seat is the one that was lent
@@ -26,7 +27,7 @@ returns-clause-ahead g c =
     let s = kept_same _ _ _ _ _ _ _ _ c.helps.ensures.same in
     let is = c.seat-1.given.1 (sym (s.1 ∙ c.new-ahead.ensures.name)) in
     let after : c.helps.new.self.seat.now.view ≡ c.seat-1.given.0.view = cc is in
-    subst (λ (w : View g.row.K.Denot g.row.V.Denot g.row.S.Denot). IsAhead g.K.PartialEq.eq g.S.Hashes.hash c.args.hasher.now c.helps.new.call w) after c.helps.ensures.ahead
+    subst (λ (w : View g.row.K.Denot g.row.V.Denot g.row.S.Denot). IsAhead g.K.PartialEq.eq g.S.Hashes.hash c.args.hasher.now (key_call g.Q.Equivalent.stands_for c.helps.new.call) w) after c.helps.ensures.ahead
 
 pub returns-clause-stays : goal.returns-clause-stays
 returns-clause-stays g c =

@@ -1,4 +1,5 @@
 use Rattle.std.proofs.Common.{◌≡◌, sym, subst, ◌∙◌}
+use Rattle.threads_steps.specs.Given.ByKey.{by_key}
 use Rattle.threads_steps.specs.Given.ViewsDeclared.view.View.{View}
 use Rattle.threads_steps.proofs.Given.Keeping.{kept_same}
 use Rattle.threads_errands.specs.Ahead.{LiesAhead, StandsAt}
@@ -8,7 +9,7 @@ pub stands-requires : goal.stands-requires
 stands-requires g c =
     let was = c.new-ahead.ensures.seat in
     let before : c.args.seat.now.view ≡ c.new-ahead.result.seat.now.view = cc was in record {
-      ahead = subst (λ (v : View g.row.K.Denot g.row.V.Denot g.row.S.Denot). LiesAhead g.K.PartialEq.eq g.S.Hashes.hash c.args.hasher.now c.args.machine.now v) before c.requires.ahead;
+      ahead = subst (λ (v : View g.row.K.Denot g.row.V.Denot g.row.S.Denot). LiesAhead g.K.PartialEq.eq g.S.Hashes.hash c.args.hasher.now (by_key g.Q.Equivalent.stands_for c.args.machine.now) v) before c.requires.ahead;
     }
 
 -- the seat is the one that was lent
@@ -27,5 +28,5 @@ returns-clause-stands g c =
     let was = c.new-ahead.ensures.seat in
     let before : c.new-ahead.result.seat.now.view ≡ c.args.seat.now.view = cc was in
     let after : c.stands.new.self.seat.now.view ≡ c.seat-1.given.0.view = cc is in
-    subst (λ (v : View g.row.K.Denot g.row.V.Denot g.row.S.Denot). StandsAt c.args.machine.now v c.seat-1.given.0.view) before
-    (subst (λ (w : View g.row.K.Denot g.row.V.Denot g.row.S.Denot). StandsAt c.args.machine.now c.new-ahead.result.seat.now.view w) after c.stands.ensures.stands)
+    subst (λ (v : View g.row.K.Denot g.row.V.Denot g.row.S.Denot). StandsAt (by_key g.Q.Equivalent.stands_for c.args.machine.now) v c.seat-1.given.0.view) before
+    (subst (λ (w : View g.row.K.Denot g.row.V.Denot g.row.S.Denot). StandsAt (by_key g.Q.Equivalent.stands_for c.args.machine.now) c.new-ahead.result.seat.now.view w) after c.stands.ensures.stands)

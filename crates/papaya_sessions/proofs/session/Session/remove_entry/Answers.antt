@@ -13,16 +13,16 @@ pair-requires g c =
 pub returns-in-Ok-Some : goal.returns-in-Ok-Some
 returns-in-Ok-Some g c =
     let y = c.remove in let at = c.in-Ok-Some in let v = c.args.self.now.base.caller.seat.view in let w = y.new.self.caller.seat.view in
-    let took = subst (λ (o : Option Found). HasTakenOut g.K.PartialEq.eq g.S.Hashes.hash c.args.key (option_map (λ (f : Found). f.word) o) v w) at.field-0-is at.ensures.taken in (
+    let took = subst (λ (o : Option Found). HasTakenOut g.K.PartialEq.eq g.S.Hashes.hash (g.Q.Equivalent.stands_for c.args.key.now) (option_map (λ (f : Found). f.word) o) v w) at.field-0-is at.ensures.taken in (
       (
         refl,
         λ _. tt,
         (
           (refl, record { memory = y.ensures.blocks; map = y.ensures.map }),
           (
-            gave_up g.K.PartialEq.eq g.S.Hashes.hash c.args.self.now y.new.self y.ensures.inside y.ensures.slot y.ensures.map y.ensures.blocks c.args.key true
-                (subst (λ (o : Option Found). HasRemoved g.K.PartialEq.eq g.S.Hashes.hash c.args.key (is_some o) v w) at.field-0-is at.ensures.removed),
-            gave_up_pair g.K.PartialEq.eq g.S.Hashes.hash c.args.self.now y.new.self y.ensures.inside y.ensures.slot y.ensures.map y.ensures.blocks c.args.key at.taken.word c.pair.result.0.now
+            gave_up g.K.PartialEq.eq g.S.Hashes.hash c.args.self.now y.new.self y.ensures.inside y.ensures.slot y.ensures.map y.ensures.blocks (g.Q.Equivalent.stands_for c.args.key.now) true
+                (subst (λ (o : Option Found). HasRemoved g.K.PartialEq.eq g.S.Hashes.hash (g.Q.Equivalent.stands_for c.args.key.now) (is_some o) v w) at.field-0-is at.ensures.removed),
+            gave_up_pair g.K.PartialEq.eq g.S.Hashes.hash c.args.self.now y.new.self y.ensures.inside y.ensures.slot y.ensures.map y.ensures.blocks (g.Q.Equivalent.stands_for c.args.key.now) at.taken.word c.pair.result.0.now
                 c.pair.result.1.now took c.pair.ensures,
             at.taken.word,
             took,
@@ -42,8 +42,8 @@ returns-in-Ok-None g c =
         λ _. tt,
         (
           (refl, record { memory = y.ensures.blocks; map = y.ensures.map }),
-          gave_up g.K.PartialEq.eq g.S.Hashes.hash c.args.self.now y.new.self y.ensures.inside y.ensures.slot y.ensures.map y.ensures.blocks c.args.key false
-              (subst (λ (o : Option Found). HasRemoved g.K.PartialEq.eq g.S.Hashes.hash c.args.key (is_some o) v w) at.field-0-is at.ensures.removed),
+          gave_up g.K.PartialEq.eq g.S.Hashes.hash c.args.self.now y.new.self y.ensures.inside y.ensures.slot y.ensures.map y.ensures.blocks (g.Q.Equivalent.stands_for c.args.key.now) false
+              (subst (λ (o : Option Found). HasRemoved g.K.PartialEq.eq g.S.Hashes.hash (g.Q.Equivalent.stands_for c.args.key.now) (is_some o) v w) at.field-0-is at.ensures.removed),
           tt,
         ),
       ),
@@ -59,7 +59,7 @@ returns-in-Err g c =
         (
           (refl, record { memory = y.ensures.blocks; map = y.ensures.map }),
           tt,
-          not_removed g.K.PartialEq.eq g.S.Hashes.hash c.args.self.now y.new.self y.ensures.inside y.ensures.slot y.ensures.map y.ensures.blocks c.args.key c.in-Err.fault
+          not_removed g.K.PartialEq.eq g.S.Hashes.hash c.args.self.now y.new.self y.ensures.inside y.ensures.slot y.ensures.map y.ensures.blocks (g.Q.Equivalent.stands_for c.args.key.now) c.in-Err.fault
               c.in-Err.ensures.refused,
         ),
       ),

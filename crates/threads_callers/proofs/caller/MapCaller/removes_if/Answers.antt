@@ -1,6 +1,6 @@
 use Rattle.seize_callers.proofs.Keeping.{none_away}
+use Rattle.threads_errands.specs.Given.ActsActs.{RemoveIf}
 use Rattle.threads_errands.specs.Given.StepsAsking.{MayTest, TestSays}
-use Rattle.threads_errands.specs.Given.ErrandsCalling.{wanted_of}
 use Rattle.threads_callers.proofs.Rows.{rests_answered}
 use Rattle.threads_callers.proofs.caller.MapCaller.removes_if.Goals as goal
 
@@ -13,5 +13,5 @@ errand-ran-requires-clause-asks g c = (c.requires.may.0, c.requires.may.1, c.req
 pub errand-ran-requires-clause-ends : goal.errand-ran-requires-clause-ends
 errand-ran-requires-clause-ends g c =
     λ answer w did.
-    rests_answered g.K.PartialEq.eq g.S.Hashes.hash (TestSays (MayTest g.F.Fn c.args.test.now)) (wanted_of c.args.machine) answer.told c.args.self.now.seat.view w
+    rests_answered g.K.PartialEq.eq g.S.Hashes.hash (TestSays (MayTest g.F.Fn c.args.test.now)) (RemoveIf (g.Q.Equivalent.stands_for c.args.key.now)) answer.told c.args.self.now.seat.view w
     c.requires.may.1.may.slot c.args.self.now.lone c.requires.may.1.may.inside did

@@ -1,3 +1,4 @@
+use Rattle.std.proofs.Common.{sym, ◌∙◌}
 use Rattle.threads_calls.proofs.Whole.{has_cleared, may_clear, not_cleared}
 use Rattle.threads_calls.proofs.session.SessionBase.clear.Goals as goal
 
@@ -12,9 +13,9 @@ does-ran-requires g c =
 pub returns-in-Ok-clause-cleared : goal.returns-in-Ok-clause-cleared
 returns-in-Ok-clause-cleared g c =
     has_cleared g.K.PartialEq.eq g.S.Hashes.hash c.args.self.now.caller.seat.view c.does-ran.new.self.seat.view c.setting_in-setting.result c.clear-call.result c.clear-call.ensures
-    c.does-ran.ensures.called c.in-Ok.field-0 c.in-Ok.is c.does-ran.ensures.fits
+    c.does-ran.ensures.called c.in-Ok.field-0 (sym c.told_of.ensures ∙ c.in-Ok.is) c.does-ran.ensures.fits
 
 pub returns-in-Err-clause-refused : goal.returns-in-Err-clause-refused
 returns-in-Err-clause-refused g c =
     not_cleared g.K.PartialEq.eq g.S.Hashes.hash c.args.self.now.caller.seat.view c.does-ran.new.self.seat.view c.setting_in-setting.result c.clear-call.result c.clear-call.ensures
-    c.does-ran.ensures.called c.in-Err.fault c.in-Err.is
+    c.does-ran.ensures.called c.in-Err.fault (sym c.told_of.ensures ∙ c.in-Err.is)

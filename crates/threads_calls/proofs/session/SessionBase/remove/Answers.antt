@@ -8,10 +8,10 @@ use Rattle.threads_calls.proofs.session.SessionBase.remove.Goals as goal
 
 pub removes-requires : goal.removes-requires
 removes-requires g c =
-    let x = c.args.self.now in let its = c.setting_in-setting.result in let hashed = c.hash_of-hash.result in record {
+    let x = c.args.self.now in let its = c.setting_in-setting.result in let hashed = c.hash_by-hash.result in let key = g.Q.Equivalent.stands_for c.args.key.now in record {
       may =
-          may_remove g.K.PartialEq.eq g.S.Hashes.hash x.caller.seat.view x.setting its x.hasher.now c.args.key hashed x.slot (removing its hashed c.args.key) x.caller.lone c.requires.inside
-          x.free x.knows c.setting_in-setting.ensures c.hash_of-hash.ensures c.hash_of-hash.type_inv refl;
+          may_remove g.K.PartialEq.eq g.S.Hashes.hash x.caller.seat.view x.setting its x.hasher.now key hashed x.slot (removing its hashed key) x.caller.lone c.requires.inside
+          x.free x.knows c.setting_in-setting.ensures c.hash_by-hash.ensures c.hash_by-hash.type_inv refl;
     }
 
 pub returns-in-Ok-clause-removed : goal.returns-in-Ok-clause-removed

@@ -1,3 +1,4 @@
+use Rattle.std.proofs.Common.{sym, ◌∙◌}
 use Rattle.threads_calls.proofs.Whole.{has_room, may_reserve, no_room}
 use Rattle.threads_calls.proofs.session.SessionBase.reserve.Goals as goal
 
@@ -12,9 +13,9 @@ does-ran-requires g c =
 pub returns-in-Ok-clause-done : goal.returns-in-Ok-clause-done
 returns-in-Ok-clause-done g c =
     has_room g.K.PartialEq.eq g.S.Hashes.hash c.args.self.now.caller.seat.view c.does-ran.new.self.seat.view c.setting_in-setting.result c.args.additional c.new-call.result c.new-call.ensures
-    c.does-ran.ensures.called c.in-Ok.field-0 c.in-Ok.is c.does-ran.ensures.fits
+    c.does-ran.ensures.called c.in-Ok.field-0 (sym c.told_of.ensures ∙ c.in-Ok.is) c.does-ran.ensures.fits
 
 pub returns-in-Err-clause-refused : goal.returns-in-Err-clause-refused
 returns-in-Err-clause-refused g c =
     no_room g.K.PartialEq.eq g.S.Hashes.hash c.args.self.now.caller.seat.view c.does-ran.new.self.seat.view c.setting_in-setting.result c.args.additional c.new-call.result c.new-call.ensures
-    c.does-ran.ensures.called c.in-Err.fault c.in-Err.is
+    c.does-ran.ensures.called c.in-Err.fault (sym c.told_of.ensures ∙ c.in-Err.is)

@@ -1,5 +1,6 @@
 use Rattle.std.proofs.Common.{inl, subst}
 use Rattle.papaya_raw.specs.declared.machines.machine.Machine.{Machine}
+use Rattle.threads_steps.specs.Given.ByKey.{by_key}
 use Rattle.threads_steps.proofs.Given.Keeping.{still_kept}
 use Rattle.threads_errands.specs.Ahead.{StandsAt}
 use Rattle.threads_errands.proofs.Behind.{leans_still, may_stand}
@@ -7,7 +8,7 @@ use Rattle.threads_errands.proofs.ahead.Ahead.stands_as.Goals as goal
 
 pub turn-requires-clause-may : goal.turn-requires-clause-may
 turn-requires-clause-may g c = let x = c.args.self.now in
-    may_stand g.K.PartialEq.eq g.S.Hashes.hash x.seat.now.view x.blocks.now.words.fixed x.seat.now.id g.B.Points.point c.args._hasher.now c.args._machine.now c.requires.picked.0 c.requires.ahead
+    may_stand g.K.PartialEq.eq g.S.Hashes.hash x.seat.now.view x.blocks.now.words.fixed x.seat.now.id g.B.Points.point c.args._hasher.now (by_key g.Q.Equivalent.stands_for c.args._machine.now) c.requires.picked.0 c.requires.ahead
 
 pub turn-requires-clause-errand : goal.turn-requires-clause-errand
 turn-requires-clause-errand g c = λ home rests w so. absurd (c.args.self.now.away home)

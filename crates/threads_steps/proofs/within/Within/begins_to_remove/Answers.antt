@@ -13,7 +13,7 @@ pub returns-clause-calls : goal.returns-clause-calls
 returns-clause-calls g c =
     let x = c.args in let m = c.requires.may in record {
       at =
-          is_begun g.K.PartialEq.eq g.S.Hashes.hash x._hasher.now (Key (removing x._setting x._hash x.key.now)) x.self.now.seat.now.view c.begins_on_as.new.self.seat.now.view m.may
+          is_begun g.K.PartialEq.eq g.S.Hashes.hash x._hasher.now (Key (removing x._setting x._hash (g.Q.Equivalent.stands_for x.key.now))) x.self.now.seat.now.view c.begins_on_as.new.self.seat.now.view m.may
           c.begins_on_as.ensures.begins;
       none = m.none;
     }

@@ -19,7 +19,7 @@ use Rattle.serde_json.specs.declared.value.Value.{Value, Array}
 use Rattle.serde_json.proofs.Views.{Entry, view-Array}
 use Rattle.map_forms.specs.Arrays.{IsArrayOf}
 use Rattle.map_forms.specs.Texts.{IsTextOf, PutsValue}
-use Rattle.map_forms.proofs.Members.{first_is, later_is}
+use Rattle.map_forms.proofs.PairByPair.{first_is, later_is}
 
 -- the values that stand beside the texts
 abbrev pub data_of : List Entry → List Data

@@ -1,5 +1,0 @@
-use Rattle.threads_steps.proofs.within.Within.tells.Given as goal
-
--- what is told is this, to this call
-abbrev pub ghosts-tells_as : goal.ghosts-tells_as
-ghosts-tells_as g a = record { machine = a._machine.now; reply = a._reply.now }
