@@ -4,6 +4,4 @@
 #[cfg(test)]
 mod building;
 #[cfg(test)]
-mod copying;
-#[cfg(test)]
 mod holding;
