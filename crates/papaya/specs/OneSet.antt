@@ -1,9 +1,10 @@
 -- What a session of a set has done by one call more, and that its answer is so in one finite set, at a moment of that call: the keys of a map whose values are units.
-use Rattle.std.specs.Prelude.{◌≡◌, ℕ, Bool, true, Option, not, option_map}
+use Rattle.std.specs.Prelude.{◌≡◌, ℕ, Bool, true, List, Option, not, option_map}
 use Rattle.papaya_map.specs.Given.SessionsCompared.{HasComparedMaps, WasNotCompared}
 use Rattle.papaya_map.specs.Given.SessionsOneMap.{MapCameToHave, MapCounted, MapGaveUp, MapHadOne, MapHadRoom, MapLookedEmpty, MapWasCleared, MapWasShown, MapWasSifted, WasRefused}
 use Rattle.papaya_map.specs.Given.SessionsSessions.{IsOnSameMap}
 use Rattle.papaya_map.specs.Given.SessionsUnder.{HasGotPairUnder, HasSoughtUnder}
+use Rattle.papaya_map.specs.Given.SessionsWalked.{GoesOn}
 use Rattle.papaya_map.specs.Given.ViewsDeclared.view.View.{View}
 use Rattle.papaya_map.specs.Given.ActsActs.{Insert}
 use Rattle.seize_words.specs.declared.fault.Fault.{Fault}
@@ -77,3 +78,8 @@ module _ {K S : Type 0} (same : K → K → Bool) (hash : S → K → ℕ) where
   -- or it was to, and was refused
   abbrev pub RefusesKey : RefusedKey K → MapCaller K (Unit {0}) S → MapCaller K (Unit {0}) S → Type 0
   RefusesKey r c n = WasRefused same hash (Insert r.key tt) r.fault c n
+
+module _ {K S Q : Type 0} (same : K → K → Bool) (hash : S → K → ℕ) (stands : Q → K) where
+  -- a walk by steps over these keys has gone on, and lends an element, or none
+  abbrev pub SetGoesOn : MapCaller K (Unit {0}) S → Option K → List Q → View K (Unit {0}) S → List Q → View K (Unit {0}) S → Type 0
+  SetGoesOn c element keys v rest w = (pair : Option (K × Unit {0})) × (element ≡ option_map (λ p. p.0) pair) × GoesOn same hash stands c pair keys v rest w

@@ -10,12 +10,13 @@ mod registration;
 mod session;
 mod set;
 mod shared;
+mod walk;
 
 pub use builder::HashSetBuilder;
 pub use papaya_map::{
-    Attempt, Collector, ComputedPair, Equivalent, Fault, Form, Given, HashMap, HashMapBuilder,
-    HashMapRef, IdSource, Onlooker, Operation, Own, Pass, Refused, Registration, ResizeMode,
-    Session, SharedMap,
+    Attempt, Collector, ComputedPair, Equivalent, Fault, Form, Found, Given, HashMap,
+    HashMapBuilder, HashMapRef, IdSource, Onlooker, Operation, Own, Pass, Refused, Registration,
+    ResizeMode, Session, SharedMap, Walk,
 };
 pub use pin::HashSetRef;
 pub use registration::SetRegistration;
@@ -23,3 +24,4 @@ pub use seize_words::RefusedKey;
 pub use session::SetSession;
 pub use set::HashSet;
 pub use shared::SharedSet;
+pub use walk::SetWalk;

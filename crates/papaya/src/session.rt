@@ -109,7 +109,7 @@ impl<'m, K: Eq + Hash + Drop, S: Hashes<K>> SetSession<'m, K, S> {
         ensures back { IfErr result (λ r. r.key ≡ key) }
     {
         match self.session.insert(rt, key, ()) {
-            Ok(replaced) => Ok(!replaced),
+            Ok(old) => Ok(old.is_none()),
             Err(
                 Refused {
                     fault,
@@ -127,7 +127,10 @@ impl<'m, K: Eq + Hash + Drop, S: Hashes<K>> SetSession<'m, K, S> {
         ensures taken { IfOk result (λ there. SetGaveUp K.eq S.hash (Q.stands_for key.now) there self.old.session.base.caller self.new.session.base.caller) }
         ensures refused { IfErr result (λ fault. WasRefused K.eq S.hash (Remove (Q.stands_for key.now)) fault self.old.session.base.caller self.new.session.base.caller) }
     {
-        self.session.remove(rt, key)
+        match self.session.take(rt, key) {
+            Ok(taken) => Ok(taken.is_some()),
+            Err(fault) => Err(fault),
+        }
     }
 
     /// Returns how many elements the set has, by its count: of each shard of that what it says at a moment of the call. While other threads change the set, that

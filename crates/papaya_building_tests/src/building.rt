@@ -1,105 +1,116 @@
-//! How maps are built, and why one is refused: the first reason that there is.
-use papaya_map::{Collector, Fault, HashMap, IdSource, ResizeMode, Session};
-use std::alloc::{AllocError, Global};
+//! How maps are built, and why one is refused: the first reason that there is; and two threads that meet within closures in one that was built.
+use papaya_map::{Collector, Fault, HashMap, IdSource, Operation, ResizeMode, Session};
+use std::alloc::Global;
 use std::hash::{BuildHasherDefault, DefaultHasher, RandomState};
 use std::sync::Wait;
+use std::sync::atomic::AtomicU64;
+use std::sync::atomic::Ordering::SeqCst;
 use std::test::Fail;
 use std::thread::{self, Threads};
+use std::time::{Clock, Duration};
 
-/// How many keys each of two threads stores.
-const EACH: u64 = 300;
+/// How often a closure looks for the other one, a millisecond apart.
+const LOOKS: u64 = 20_000;
 
-/// A capacity that no table has the places for.
-const TOO_MANY: u64 = 2_305_843_009_213_693_951;
+pub(crate) type Hashing = BuildHasherDefault<DefaultHasher>;
 
-/// A source that begins here gives one number more, and none then.
-const LAST: u64 = 18_446_744_073_709_551_614;
+pub(crate) type Map = HashMap<u64, u64, Hashing>;
 
-type Hashing = BuildHasherDefault<DefaultHasher>;
+pub(crate) type Own<'m> = Session<'m, u64, u64, Hashing>;
 
-type Map = HashMap<u64, u64, Hashing>;
+pub(crate) type Told<T> = Result<T, Fault>;
 
-type Own<'m> = Session<'m, u64, u64, Hashing>;
-
-/// Whether each reason comes before those that follow it, and whether a source of one number still has that afterwards.
-fn reasons(alloc: Global, hasher: RandomState) -> [bool; 6] {
-    let mut ids = IdSource::starting_at(LAST);
-    let builder = Map::builder(Hashing::default()).resize_mode(ResizeMode::Incremental(0));
-    let zero = builder.capacity(TOO_MANY).build(alloc, &mut ids);
-    let builder = Map::builder(Hashing::default()).capacity(TOO_MANY);
+/// Whether each reason comes before those that follow it, a source of two numbers still has both afterwards, and a builder shows what was chosen.
+fn reasons(alloc: Global, one: RandomState, other: RandomState) -> Told<[bool; 8]> {
+    let mut ids = IdSource::starting_at(u64::MAX - 2);
+    let builder = Map::builder(Hashing::default()).capacity(u64::MAX);
+    let shown = format!(in alloc; "{builder:?}")?;
     let many = builder.build(alloc, &mut ids);
-    let still = Map::builder(Hashing::default()).build(alloc, &mut ids);
-    let none = Map::builder(Hashing::default()).build(alloc, &mut ids);
-    let with = Map::with_capacity_and_hasher(alloc, &mut ids, TOO_MANY, Hashing::default());
-    let random = HashMap::<u64, u64>::with_capacity(alloc, &mut ids, 100, hasher);
-    [
-        matches!(zero, Err(Fault::ZeroChunk)),
+    let builder = Map::builder(Hashing::default()).resize_mode(ResizeMode::Incremental(0));
+    let zero = builder.capacity(u64::MAX).build(alloc, &mut ids);
+    let with = Map::with_capacity_and_hasher(alloc, &mut ids, u64::MAX / 8 + 1, Hashing::default());
+    let still = HashMap::<u64, u64>::with_capacity(alloc, &mut ids, 100, one);
+    let last = Map::with_capacity_and_hasher(alloc, &mut ids, 100, Hashing::default());
+    let none = Map::with_hasher(alloc, &mut ids, Hashing::default());
+    let new = HashMap::<u64, u64>::new(alloc, &mut ids, other);
+    Ok([
+        shown.as_str()
+            == "HashMapBuilder { capacity: 18446744073709551615, collector: None, resize_mode: Incremental(64) }",
         matches!(many, Err(Fault::Capacity)),
-        still.is_ok(),
-        matches!(none, Err(Fault::CollectorsUsedUp)),
+        matches!(zero, Err(Fault::ZeroChunk)),
         matches!(with, Err(Fault::Capacity)),
-        matches!(random, Err(Fault::CollectorsUsedUp)),
-    ]
+        still.is_ok(),
+        last.is_ok(),
+        matches!(none, Err(Fault::CollectorsUsedUp)),
+        matches!(new, Err(Fault::CollectorsUsedUp)),
+    ])
 }
 
 #[test]
 fn the_first_reason_refuses_a_map(rt: HostRuntime) -> Result<(), Fail> {
-    assert_eq!(rt; reasons(rt.alloc(), RandomState::new(&rt)?), [true; 6]);
+    let (hasher, other) = (RandomState::new(&rt)?, RandomState::new(&rt)?);
+    assert_eq!(rt; reasons(rt.alloc(), hasher, other)?, [true; 8]);
     Ok(())
 }
 
-/// How a builder is shown.
-fn is_shown(alloc: Global) -> Result<bool, AllocError> {
-    let map = Map::builder(Hashing::default()).capacity(10);
-    let map = format!(in alloc; "{map:?}")?;
-    Ok(
-        map.as_str()
-            == "HashMapBuilder { capacity: 10, collector: None, resize_mode: Incremental(64) }",
-    )
-}
-
-#[test]
-fn a_builder_shows_what_was_chosen(rt: HostRuntime) -> Result<(), Fail> {
-    assert!(rt; is_shown(rt.alloc())?);
-    Ok(())
-}
-
-/// Stores so many keys from this one on, and answers how many of them it finds then.
-fn stores<R: Wait>(rt: &R, mut session: Own<'_>, from: u64) -> Result<u64, Fault> {
-    let mut found = 0u64;
-    for n in 0..EACH {
-        let key = u64::wrapping_add(from, n);
-        let _ = session.insert(rt, key, key)?;
-        if session.contains_key(rt, &key) {
-            found = u64::wrapping_add(found, 1);
-        }
-        session.refresh();
-    }
-    Ok(found)
-}
-
-/// Two threads store in a map that was built with all that can be chosen: of batches of one block, two shards, and this mode. Answers what both have found.
-fn built<R: Threads + Wait + Sync>(rt: &R, alloc: Global, mode: ResizeMode) -> Result<u64, Fault> {
+/// A map of this mode, which was built with all that can be chosen: also of batches of one block, and two shards.
+pub(crate) fn built(alloc: Global, hasher: RandomState, mode: ResizeMode) -> Told<Map> {
     let mut ids = IdSource::new();
     let collector = Collector::new(&mut ids, 1, 4)?.batch_size(1);
-    let map = HashMap::builder(Hashing::default())
+    let builder = HashMap::builder(hasher)
         .hasher(Hashing::default())
-        .collector(collector)
-        .shards(2)
-        .resize_mode(mode)
-        .capacity(2 * EACH)
-        .build(alloc, &mut ids)?;
-    let first = map.session()?;
-    let second = first.another()?;
-    let (one, other) = thread::join(rt, || stores(rt, first, 0), || stores(rt, second, EACH));
-    Ok(u64::wrapping_add(one?, other?))
+        .capacity(10);
+    let builder = builder.collector(collector).shards(2).resize_mode(mode);
+    builder.build(alloc, &mut ids)
 }
 
-// A body that served one thread after the other would pass, too.
+/// Says that it is there, and whether the other one comes.
+fn arrives<R: Wait + Clock>(rt: &R, own: &AtomicU64, other: &AtomicU64) -> u64 {
+    own.store(1, SeqCst);
+    for _ in 0..LOOKS {
+        if other.load(SeqCst) == 1 {
+            return 1;
+        }
+        thread::sleep(rt, Duration::from_millis(1));
+    }
+    0
+}
+
+/// Stores at a key, by a call that computes it, whether the other thread was seen from within the closure.
+fn computes<R: Wait + Clock>(
+    rt: &R,
+    mut map: Own<'_>,
+    key: u64,
+    own: &AtomicU64,
+    other: &AtomicU64,
+) -> Told<Option<u64>> {
+    let _ = map.compute(
+        rt,
+        &key,
+        |_| Operation::Insert::<u64, ()>(arrives(rt, own, other)),
+    )?;
+    Ok(map.get(rt, &key).copied())
+}
+
+/// Two threads do so, each at a key of its own.
+fn both<R: Threads + Wait + Clock + Sync>(rt: &R, map: &Map) -> Told<[Option<u64>; 2]> {
+    let (first, second) = (map.session()?, map.session()?);
+    let (one, other) = (AtomicU64::new(0), AtomicU64::new(0));
+    let (a, b) = thread::join(
+        rt,
+        || computes(rt, first, 1, &one, &other),
+        || computes(rt, second, 2, &other, &one),
+    );
+    Ok([a?, b?])
+}
+
+// Were one call served after another, the closure of the first would never see the flag of the second.
 #[test]
-fn a_map_that_was_built_is_shared(rt: HostRuntime) -> Result<(), Fail> {
-    let chunks = built(&rt, rt.alloc(), ResizeMode::Incremental(1))?;
-    let at_once = built(&rt, rt.alloc(), ResizeMode::Blocking)?;
-    assert_eq!(rt; (chunks, at_once), (2 * EACH, 2 * EACH));
+fn two_calls_ask_their_closures_at_a_time(rt: HostRuntime) -> Result<(), Fail> {
+    for mode in [ResizeMode::Incremental(1), ResizeMode::Blocking] {
+        let map = built(rt.alloc(), RandomState::new(&rt)?, mode)?;
+        let met = both(&rt, &map)?;
+        assert_eq!(rt; met, [Some(1); 2]);
+    }
     Ok(())
 }

@@ -1,11 +1,7 @@
-//! Tests of how maps that threads share begin: their builders, their first sessions, and threads that meet within closures.
+//! Tests of how maps that threads share begin: their builders, their sessions and registrations, and threads that meet within closures.
 #![tactic(auto)]
 
 #[cfg(test)]
-mod asking;
-#[cfg(test)]
 mod building;
-#[cfg(test)]
-mod copying;
 #[cfg(test)]
 mod opening;

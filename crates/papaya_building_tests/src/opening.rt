@@ -1,100 +1,103 @@
-//! How maps are made, what is left in one whose sessions have ended, and threads that begin sessions of their own on the one map that both have.
-use papaya_map::{Fault, HashMap, IdSource, SharedMap};
-use std::alloc::Global;
-use std::hash::{BuildHasherDefault, DefaultHasher, RandomState};
+//! What is left in a map whose sessions have ended, what a registration has between its sections, and threads that begin sessions of their own, or are sent one.
+use crate::building::{Hashing, Told, built};
+use papaya_map::{Registration, ResizeMode, SharedMap};
+use std::hash::RandomState;
 use std::sync::Wait;
 use std::test::Fail;
 use std::thread::{self, Threads};
 
 /// How many keys each of them stores.
-const EACH: u64 = 100;
+const EACH: u64 = 64;
 
-type Hashing = BuildHasherDefault<DefaultHasher>;
+type Lent<'m> = SharedMap<'m, u64, u64, Hashing>;
 
-type Map<'m> = SharedMap<'m, u64, u64, Hashing>;
-
-/// Stores so many keys from this one on in the map, each with itself.
-fn stores<R: Wait>(rt: &R, map: &Map<'_>, from: u64) -> Result<(), Fault> {
+/// Stores so many keys from this one on, each with itself, and answers how many of them it reads back.
+fn stores<R: Wait>(rt: &R, map: &Lent<'_>, from: u64) -> Told<u64> {
     let mut session = map.session()?;
+    let mut found = 0u64;
     for n in 0..EACH {
         let key = u64::wrapping_add(from, n);
         let _ = session.insert(rt, key, key)?;
-    }
-    Ok(())
-}
-
-/// How many of all keys are there, once two threads have stored theirs.
-fn stored<R: Threads + Wait + Sync>(rt: &R, alloc: Global) -> Result<u64, Fault> {
-    let mut ids = IdSource::new();
-    let map = HashMap::with_hasher(alloc, &mut ids, Hashing::default())?;
-    let shared = map.shared();
-    let (one, other) = thread::join(rt, || stores(rt, &shared, 0), || stores(rt, &shared, EACH));
-    one?;
-    other?;
-    let mut session = map.session()?;
-    let mut found = 0u64;
-    for key in 0..2 * EACH {
-        if session.get(rt, &key).copied() == Some(key) {
-            found = u64::wrapping_add(found, 1);
-        }
+        let there = session.get(rt, &key).copied() == Some(key);
+        found = u64::wrapping_add(found, u64::from(there));
     }
     Ok(found)
 }
 
+/// Removes so many keys from this one on, and answers how many were there.
+fn removes<R: Wait>(rt: &R, map: &Lent<'_>, from: u64) -> Told<u64> {
+    let mut session = map.session()?;
+    let mut removed = 0u64;
+    for n in 0..EACH {
+        let there = session.remove(rt, &u64::wrapping_add(from, n))?.is_some();
+        removed = u64::wrapping_add(removed, u64::from(there));
+    }
+    Ok(removed)
+}
+
+/// How many of all keys are there.
+fn finds<R: Wait>(rt: &R, map: &Lent<'_>) -> Told<u64> {
+    let mut session = map.session()?;
+    let mut found = 0u64;
+    for key in 0..2 * EACH {
+        let there = session.get(rt, &key).copied() == Some(key);
+        found = u64::wrapping_add(found, u64::from(there));
+    }
+    Ok(found)
+}
+
+/// Two threads store keys of their own, and remove them then: how many each has read back, all that are found, how many each has removed, and all that are found then.
+fn stored<R: Threads + Wait + Sync>(rt: &R, map: &Lent<'_>) -> Told<[u64; 6]> {
+    let (one, other) = thread::join(rt, || stores(rt, map, 0), || stores(rt, map, EACH));
+    let all = finds(rt, map)?;
+    let (a, b) = thread::join(rt, || removes(rt, map, 0), || removes(rt, map, EACH));
+    Ok([one?, other?, all, a?, b?, finds(rt, map)?])
+}
+
 #[test]
 fn threads_begin_sessions_of_their_own(rt: HostRuntime) -> Result<(), Fail> {
-    assert_eq!(rt; stored(&rt, rt.alloc())?, 2 * EACH);
+    for mode in [ResizeMode::Incremental(1), ResizeMode::Blocking] {
+        let map = built(rt.alloc(), RandomState::new(&rt)?, mode)?;
+        let told = stored(&rt, &map.shared())?;
+        assert_eq!(rt; told, [EACH, EACH, 2 * EACH, EACH, EACH, 0]);
+    }
     Ok(())
 }
 
-#[test]
-fn a_source_that_is_used_up_gives_no_map(rt: HostRuntime) -> Result<(), Fail> {
-    let mut ids = IdSource::starting_at(18_446_744_073_709_551_614);
-    assert!(rt; ids.next().is_ok());
-    let none = HashMap::<u64, u64>::new(rt.alloc(), &mut ids, RandomState::new(&rt)?);
-    assert!(rt; matches!(none, Err(Fault::CollectorsUsedUp)));
-    Ok(())
+/// Stores a key in a section of a registration that it was sent, which it answers back.
+fn enters<'m, R: Wait>(
+    rt: &R,
+    registration: Registration<'m, u64, u64, Hashing>,
+) -> Told<Registration<'m, u64, u64, Hashing>> {
+    let mut session = registration.enter();
+    let _ = session.insert(rt, 1, 2)?;
+    Ok(session.leave())
 }
 
-/// What one session has put there, and a later one finds; and whether the later one finds what none has put there.
-fn left<R: Wait>(rt: &R, alloc: Global) -> Result<(Option<u64>, bool), Fault> {
-    let mut ids = IdSource::new();
-    let map = HashMap::with_hasher(alloc, &mut ids, Hashing::default())?;
+/// What a session has stored, another thread in the section of a registration, and a further session meanwhile, as the next section of that registration finds it; and what
+/// none has stored.
+fn between<R: Threads + Wait + Sync>(rt: &R, map: &Lent<'_>) -> Told<[Option<u64>; 4]> {
     let mut first = map.session()?;
-    let _ = first.insert(rt, 1u64, 2u64)?;
+    let _ = first.insert(rt, 5, 6)?;
     first.refresh();
     drop(first);
-    let mut second = map.session()?;
-    let found = second.get(rt, &1).copied();
-    let other = second.contains_key(rt, &2);
-    drop(second);
-    Ok((found, other))
+    let registration = map.register()?;
+    let (registration, ()) = thread::join(rt, || enters(rt, registration), || ());
+    let registration = registration?;
+    let _ = map.session()?.insert(rt, 3, 4)?;
+    let mut next = registration.enter();
+    Ok([
+        next.get(rt, &5).copied(),
+        next.get(rt, &1).copied(),
+        next.get(rt, &3).copied(),
+        next.get(rt, &7).copied(),
+    ])
 }
 
 #[test]
 fn what_a_session_has_put_there_stays_once_it_has_ended(rt: HostRuntime) -> Result<(), Fail> {
-    assert_eq!(rt; left(&rt, rt.alloc())?, (Some(2), false));
-    Ok(())
-}
-
-/// What a registration's first section has put there, and another session meanwhile, as its second section finds it.
-fn between<R: Wait>(rt: &R, alloc: Global) -> Result<(Option<u64>, Option<u64>), Fault> {
-    let mut ids = IdSource::new();
-    let map = HashMap::with_hasher(alloc, &mut ids, Hashing::default())?;
-    let registration = map.register()?;
-    let mut first = registration.enter();
-    let _ = first.insert(rt, 1u64, 2u64)?;
-    let registration = first.leave();
-    let mut other = map.session()?;
-    let _ = other.insert(rt, 3u64, 4u64)?;
-    let mut second = registration.enter();
-    let own = second.get(rt, &1).copied();
-    let others = second.get(rt, &3).copied();
-    Ok((own, others))
-}
-
-#[test]
-fn a_registration_has_one_section_after_another(rt: HostRuntime) -> Result<(), Fail> {
-    assert_eq!(rt; between(&rt, rt.alloc())?, (Some(2), Some(4)));
+    let map = built(rt.alloc(), RandomState::new(&rt)?, ResizeMode::default())?;
+    let found = between(&rt, &map.shared())?;
+    assert_eq!(rt; found, [Some(6), Some(2), Some(4), None]);
     Ok(())
 }

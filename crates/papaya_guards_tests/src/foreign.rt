@@ -1,12 +1,14 @@
 //! A guard or a pass of another map is refused, by each call that takes one, and is as it was.
 use crate::passing::{Hashing, Told};
-use papaya_map::{Fault, HashMap, IdSource, Refused};
+use papaya_map::{Fault, HashMap, IdSource, Operation, Refused};
 use std::alloc::Global;
 use std::sync::Wait;
 use std::test::Fail;
 
+type Map = HashMap<u64, u64, Hashing>;
+
 /// Tells whether a call was refused what is of another map.
-fn is_foreign<T: Drop>(told: Result<T, Fault>) -> bool {
+fn is_foreign<T: Drop>(told: Told<T>) -> bool {
     matches!(told, Err(Fault::ForeignGuard))
 }
 
@@ -21,50 +23,52 @@ fn has_come_back<T: Drop>(told: Result<T, Refused<u64, u64>>) -> bool {
 /// What lookups say to a guard and to a pass of another map: with the guard, with the pass, and by the pass under a session.
 fn looks<R: Wait>(rt: &R, alloc: Global) -> Told<[bool; 9]> {
     let mut ids = IdSource::new();
-    let own = HashMap::<u64, u64, Hashing>::with_hasher(alloc, &mut ids, Hashing::default())?;
-    let other = HashMap::<u64, u64, Hashing>::with_hasher(alloc, &mut ids, Hashing::default())?;
+    let own = Map::with_hasher(alloc, &mut ids, Hashing::default())?;
+    let other = Map::with_hasher(alloc, &mut ids, Hashing::default())?;
     let map = own.shared();
     let guard = own.session()?;
     let strange = other.session()?;
-    let (mut pass, mut foreign) = (own.shared().pass(), strange.pass());
-    let own_numbers = guard.number() == map.number() && pass.number() == map.number();
+    let (mut pass, mut foreign) = (map.pass(), strange.pass());
     Ok([
         is_foreign(map.get(rt, &1, &strange, &mut pass)),
         is_foreign(map.get(rt, &1, &guard, &mut foreign)),
         is_foreign(map.contains_key(rt, &1, &strange, &mut foreign)),
         is_foreign(guard.contains_key_by(rt, &1, &mut foreign)),
         is_foreign(guard.get_by(rt, &1, &mut foreign)),
+        is_foreign(guard.get_key_value_by(rt, &1, &mut foreign)),
         is_foreign(map.get_key_value(rt, &1, &strange, &mut pass)),
         matches!(map.get(rt, &1, &guard, &mut pass), Ok(None)),
-        matches!(map.get_key_value(rt, &1, &guard, &mut pass), Ok(None)),
-        own_numbers && strange.number() == foreign.number() && foreign.number() != map.number(),
+        guard.number() == map.number() && pass.number() != strange.number(),
     ])
 }
 
 /// What calls that change a map say to a guard of another one, and what that one has then; and whether one with its own guard goes.
-fn stores<R: Wait>(rt: &R, alloc: Global) -> Told<[bool; 6]> {
+fn stores<R: Wait>(rt: &R, alloc: Global) -> Told<[bool; 12]> {
     let mut ids = IdSource::new();
-    let own = HashMap::<u64, u64, Hashing>::with_hasher(alloc, &mut ids, Hashing::default())?;
-    let other = HashMap::<u64, u64, Hashing>::with_hasher(alloc, &mut ids, Hashing::default())?;
+    let own = Map::with_hasher(alloc, &mut ids, Hashing::default())?;
+    let other = Map::with_hasher(alloc, &mut ids, Hashing::default())?;
     let map = own.shared();
     let mut guard = own.session()?;
     let mut strange = other.session()?;
-    let inserted = has_come_back(map.insert(rt, 1, 2, &mut strange));
-    let tried = has_come_back(map.try_insert(rt, 1, 2, &mut strange));
-    let removed = is_foreign(map.remove(rt, &1, &mut strange));
-    let asked = is_foreign(map.try_insert_with(rt, 1, || 2, &mut strange))
-        && is_foreign(map.remove_if(rt, &1, |_, _| true, &mut strange));
-    let none = !strange.contains_key(rt, &1);
-    let stored = matches!(map.insert(rt, 1, 2, &mut guard), Ok(false))
-        && matches!(map.remove_if(rt, &1, |_, v| *v == 2, &mut guard), Ok(true))
-        && matches!(map.try_insert_with(rt, 1, || 3, &mut guard), Ok(true))
-        && matches!(map.remove(rt, &1, &mut guard), Ok(true));
-    Ok([inserted, tried, asked, removed, none, stored])
+    Ok([
+        has_come_back(map.insert(rt, 1, 2, &mut strange)),
+        has_come_back(map.try_insert(rt, 1, 2, &mut strange)),
+        is_foreign(map.remove(rt, &1, &mut strange)),
+        is_foreign(map.try_insert_with(rt, 1, || 2, &mut strange)),
+        is_foreign(map.remove_if(rt, &1, |_, _| true, &mut strange)),
+        is_foreign(map.update(rt, &1, |value| *value, &mut strange)),
+        is_foreign(map.update_or_insert(rt, &1, |value| *value, &2, &mut strange)),
+        is_foreign(map.update_or_insert_with(rt, &1, |value| *value, || 2, &mut strange)),
+        is_foreign(map.compute(rt, &1, |_| Operation::Insert::<u64, ()>(2), &mut strange)),
+        !strange.contains_key(rt, &1),
+        matches!(map.insert(rt, 1, 2, &mut guard), Ok(None)),
+        matches!(map.remove(rt, &1, &mut guard), Ok(Some(_))),
+    ])
 }
 
 #[test]
 fn lookups_and_changes_refuse_what_is_of_another_map(rt: HostRuntime) -> Result<(), Fail> {
     assert_eq!(rt; looks(&rt, rt.alloc())?, [true; 9]);
-    assert_eq!(rt; stores(&rt, rt.alloc())?, [true; 6]);
+    assert_eq!(rt; stores(&rt, rt.alloc())?, [true; 12]);
     Ok(())
 }

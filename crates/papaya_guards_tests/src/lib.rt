@@ -1,9 +1,9 @@
-//! Tests of what stands beside sessions and their calls on one key: passes under a guard that is lent, guards of another map, and pairs that a session lends.
+//! Tests of what stands beside sessions and their calls on one key: passes under a guard that is lent, guards of another map, pairs that two are lent, and clones.
 #![tactic(auto)]
 
 #[cfg(test)]
-mod foreign;
+mod copying;
 #[cfg(test)]
-mod lending;
+mod foreign;
 #[cfg(test)]
 mod passing;

@@ -19,7 +19,7 @@ module _ {K V S W : Type 0} (same : K → K → Bool) (hash : S → K → ℕ) (
       → (refused w ≡ None) × (ys : List (K × V)) × AllZip (IsPairClone key_clone value_clone) xs ys × PutsAll (PutsPair same hash) ys (caller w) (caller last)
   all_cloned [] w last is none = (ap refused is ∙ none, [], tt, sym (ap caller is))
   all_cloned (x ∷ xs) w last (j, one, folds) none =
-      let rest = all_cloned xs j last folds none in let here = one rest.0 in (here.0, here.1 ∷ rest.1, (here.2, rest.2), (caller j, here.3, rest.3))
+      let rest = all_cloned xs j last folds none in let here = one rest.0 in (here.0, here.1.0 ∷ rest.1, (here.1.1, rest.2), (caller j, here.1.2, rest.3))
 
   -- the walk has ended, and nothing was refused to a clone
   pub cloned_into : (c n : MapCaller K V S) (first last : W) → HasBeenShown same hash along first last c.seat.view n.seat.view → (end : Result (Unit {0}) Fault) (done : Unit {0}) → end ≡ Ok done

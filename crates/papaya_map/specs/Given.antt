@@ -14,3 +14,4 @@ pub use Rattle.papaya_sessions.specs.Kept as SessionsKept
 pub use Rattle.papaya_sessions.specs.OneMap as SessionsOneMap
 pub use Rattle.papaya_sessions.specs.Sessions as SessionsSessions
 pub use Rattle.papaya_sessions.specs.Under as SessionsUnder
+pub use Rattle.papaya_sessions.specs.Walked as SessionsWalked

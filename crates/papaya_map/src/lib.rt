@@ -11,7 +11,8 @@ pub use builder::{Given, HashMapBuilder, Own};
 pub use map::HashMap;
 pub use map_tables::{Equivalent, ResizeMode};
 pub use papaya_sessions::{
-    Attempt, ComputedPair, Form, HashMapRef, Onlooker, Operation, Pass, Registration, Session,
+    Attempt, ComputedPair, Form, Found, HashMapRef, Onlooker, Operation, Pass, Registration,
+    Session, Walk,
 };
 pub use seize::{Collector, IdSource};
 pub use seize_words::{Fault, Refused};

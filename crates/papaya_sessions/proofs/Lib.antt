@@ -2,3 +2,4 @@ mod Compared
 pub mod Extended
 mod OneMap
 mod Under
+mod Walked

@@ -1,10 +1,10 @@
 -- That what a session was told is so in one finite map: by its newest call, which began within its section, on the map that it knows still.
-use Rattle.std.specs.Prelude.{◌<◌, ◌^◌, Option, Some, None, Result, Ok, Err, IfErr, IfOk, is_some}
+use Rattle.std.specs.Prelude.{◌<◌, ◌^◌, Option, Some, None, Result, Ok, Err, IfErr, IfOk, IfSome, is_some, option_map}
 use Rattle.std.proofs.Common.{◌≡◌, ℕ, Bool, refl, sym, subst, ap, ◌∙◌}
 use Rattle.std.proofs.lemmas.Bool.{ltb-true}
 use Rattle.std.specs.declared.hash.Hash as hashing
 use Rattle.map_tables.specs.declared.node.Node.{Node}
-use Rattle.papaya_sessions.specs.OneMap.{MapCameToHave, MapCounted, MapGaveUp, MapHad, MapHadOne, MapHadRoom, MapLacked, MapLookedEmpty, MapWasCleared, MapWasShown, MapWasSifted, WasRefused}
+use Rattle.papaya_sessions.specs.OneMap.{MapCameToHave, MapCounted, MapGaveUp, MapGaveUpNamed, MapHad, MapHadOne, MapHadRoom, MapHasNamed, MapLacked, MapLookedEmpty, MapWasCleared, MapWasShown, MapWasSifted, WasRefused}
 use Rattle.papaya_sessions.specs.Sessions.{HasGot}
 use Rattle.papaya_sessions.specs.declared.session.Session.{Session}
 use Rattle.play_moves.proofs.OneHistory.Calls.{found_none, found_value, has_inserted, has_looked, has_missed, has_one, has_refused, has_removed, has_removed_pair, has_tried}
@@ -126,6 +126,14 @@ module _ {K V S : Type 0} {h : hashing.Ghosts K} (same : K → K → Bool) (hash
   one_there key value word stored its (answer, run, names) lent =
       has_one same hash fixed small n.seat.id run.1 w run.0 (begun (TryToInsert key value) (outcome_of (Ok answer)) run) v.calls (stays ∙ run.2) (section run.1 run.3) run.4 key value answer word stored its
       refl refl names lent.0
+
+  -- so it is of each that is lent by the word that the call names
+  pub gave_up_named : {A : Type 0} (word : A → ℕ) (key : K) (taken : Option A) → HasTakenOut same hash key (option_map word taken) v w → IfSome taken (λ x. MapGaveUpNamed same hash key (word x) c n)
+  gave_up_named word key None took = tt
+  gave_up_named word key (Some x) took = (took, λ pair lent. gave_up_pair key (word x) pair.0 pair.1 took lent)
+
+  pub has_named : (key : K) (value : V) (word : ℕ) → HasOneThere same hash key value word v w → MapHasNamed same hash key value word c n
+  has_named key value word there = (there, λ pair lent. one_there key value word pair.0 pair.1 there lent)
 
   pub not_stored : (key : K) (value : V) (fault : Fault) → HasRun same hash (Insert key value) (outcome_of (Err fault)) v w → WasRefused same hash (Insert key value) fault c n
   not_stored key value fault run = (

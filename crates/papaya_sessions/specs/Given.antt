@@ -9,6 +9,7 @@ pub use Rattle.threads_sweeps.specs.Swept
 pub use Rattle.threads_updates.specs.Deciding as UpdatesDeciding
 pub use Rattle.threads_updates.specs.Given.CallersDeclared
 pub use Rattle.threads_updates.specs.Given.CallsAnswers
+pub use Rattle.threads_updates.specs.Given.CallsShown
 pub use Rattle.threads_updates.specs.Given.OwnedOwned
 pub use Rattle.threads_updates.specs.Given.SeizeViewsDeclared
 pub use Rattle.threads_updates.specs.Given.StepsAsking as ErrandsAsking

@@ -8,3 +8,4 @@ pub mod Lent
 pub mod OneMap
 pub mod Sessions
 pub mod Under
+pub mod Walked

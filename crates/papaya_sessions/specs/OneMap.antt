@@ -1,5 +1,5 @@
 -- What a session has done by one call more, and that its answer is so in one finite map, at a moment of that call: by the caller that it was, and the one that it is.
-use Rattle.std.specs.Prelude.{◌≡◌, ◌==◌, ℕ, Bool, true, false, Option, Some, None, Ok}
+use Rattle.std.specs.Prelude.{◌≡◌, ◌==◌, ℕ, Bool, true, false, Option, Some, None, Ok, option_map}
 use Rattle.play_moves.specs.OneHistory.Calls.{FoundNone, FoundValue, HasInserted, HasLooked, HasOne, HasRefused, HasRemoved as HasGivenUp, HasRemovedPair, HasTried as HasLacked}
 use Rattle.play_moves.specs.OneHistory.Whole.{HasCleared, HasCounted, HasMadeRoom, HasRetained, HasWalked}
 use Rattle.play_moves.specs.Given.ActsActs.{Wanted}
@@ -40,6 +40,22 @@ module _ {K V S : Type 0} (same : K → K → Bool) (hash : S → K → ℕ) whe
   MapGaveUpPair key (Some pair) c n =
       MapGaveUp key true c n × HasRemovedPair same hash n.blocks.now.words.fixed n.seat.id n.seat.view key pair
       × (word : ℕ) × HasTakenOut same hash key (Some word) c.seat.view n.seat.view × IsPairLent same hash n word pair
+
+  -- or it lends its value,
+  abbrev pub MapGaveUpValue : K → Option V → MapCaller K V S → MapCaller K V S → Type 0
+  MapGaveUpValue key value c n = (pair : Option (K × V)) × (value ≡ option_map (λ p. p.1) pair) × MapGaveUpPair key pair c n
+
+  -- or names it by this word, and it is what it lends by that
+  abbrev pub MapGaveUpNamed : K → ℕ → MapCaller K V S → MapCaller K V S → Type 0
+  MapGaveUpNamed key word c n =
+      HasTakenOut same hash key (Some word) c.seat.view n.seat.view
+      × ((pair : K × V) → IsPairLent same hash n word pair → HasRemovedPair same hash n.blocks.now.words.fixed n.seat.id n.seat.view key pair)
+
+  -- it has tried to store this pair, and names the one that is there then, as its map had it
+  abbrev pub MapHasNamed : K → V → ℕ → MapCaller K V S → MapCaller K V S → Type 0
+  MapHasNamed key value word c n =
+      HasOneThere same hash key value word c.seat.view n.seat.view
+      × ((pair : K × V) → IsPairLent same hash n word pair → HasOne same hash n.blocks.now.words.fixed n.seat.id n.seat.view key value pair.1)
 
   -- it has tried to store this pair, and lends the value of the pair that its call names as the one that is there then, as its map had it
   abbrev pub MapHasOne : K → V → V → MapCaller K V S → MapCaller K V S → Type 0

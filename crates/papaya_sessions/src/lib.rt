@@ -4,6 +4,7 @@
 mod pass;
 mod registration;
 mod session;
+mod walk;
 
 pub use pass::{HashMapRef, Pass};
 pub use registration::Registration;
@@ -11,5 +12,6 @@ pub use seize_words::Operation;
 pub use session::Session;
 pub use threads_sweeps::Onlooker;
 pub use threads_updates::{
-    Attempt, ComputedPair, Fixed, Form, OfMaps, SessionBase, Sleepers, memory_for, newcomer,
+    Attempt, ComputedPair, Fixed, Form, Found, OfMaps, SessionBase, Sleepers, memory_for, newcomer,
 };
+pub use walk::Walk;

@@ -1,14 +1,15 @@
 //! A map, as one of those has it who share it: with a slot of its own, within a section.
-ghost use Rattle.std.specs.Prelude.{◌≡◌, ◌^◌, [], true, IfOk, IfErr, nat_lt, option_map};
+ghost use Rattle.std.specs.Prelude.{◌≡◌, ◌^◌, [], true, IfOk, IfErr, IfSome, is_some, nat_lt, option_map};
 ghost use Rattle.std.specs.Borrow.{sem};
 ghost use Rattle.std.specs.Fn.{FnOnceReturns};
 ghost use Rattle.std.specs.Iterator.{IsFiniteIterable};
 ghost use Rattle.papaya_sessions.specs.Asked.{HasRemovedIf, HasTriedWith};
 ghost use Rattle.papaya_sessions.specs.Extended.{Extends, PutsPair, RefusesPair, pair_of};
-ghost use Rattle.papaya_sessions.specs.OneMap.{MapCameToHave, MapCounted, MapGaveUp, MapHad, MapHadOne, MapHadRoom, MapLacked, MapLookedEmpty, MapWasCleared, MapWasShown, MapWasSifted, WasRefused};
+ghost use Rattle.papaya_sessions.specs.OneMap.{MapCameToHave, MapCounted, MapGaveUp, MapGaveUpNamed, MapHad, MapHadOne, MapHadRoom, MapHasNamed, MapLacked, MapLookedEmpty, MapWasCleared, MapWasShown, MapWasSifted, WasRefused};
 ghost use Rattle.papaya_sessions.specs.Sessions.{HasBeenRefused, HasMadeNone};
 ghost use Rattle.play_moves.specs.Given.ActsActs.{Insert, MakeRoom, Remove, RemoveIf, TryToInsert, TryToInsertWith};
-ghost use Rattle.threads_updates.specs.Given.CallsAnswers.{CameBack, clears, has_stored};
+ghost use Rattle.threads_updates.specs.Given.CallsAnswers.{CameBack, HasReplaced, clears, has_stored};
+ghost use Rattle.threads_updates.specs.Given.CallsShown.{IsPairLent, Shows};
 ghost use Rattle.threads_updates.specs.Given.SeizeViewsDeclared.view.Has.TheVariants.{Nothing};
 ghost use Rattle.threads_updates.specs.Given.SeizeViewsDeclared.view.SlotView.TheVariants.{Inside, Rests};
 ghost use Rattle.threads_updates.specs.Given.StepsAsking.{HasAsked, MakingSays, MayTest, TestSays};
@@ -26,7 +27,7 @@ use seize_words::{Fault, Refused};
 use std::hash::{Hash, RandomState};
 use std::sync::Wait;
 use threads_sweeps::Onlooker;
-use threads_updates::{Attempt, Form, SessionBase as Base};
+use threads_updates::{Attempt, Form, Found, SessionBase as Base};
 
 /// A map, as one of those has it who share it. It may be sent to a thread, and holds a slot, within a section that is open from its beginning to its end: what its calls have
 /// found isn't given back as long as the answer is borrowed. As long as it neither ends nor is refreshed, nothing that was removed or replaced meanwhile is reclaimed,
@@ -111,50 +112,69 @@ impl<'m, K: Eq + Hash + Drop, V: Drop, S: Hashes<K>> Session<'m, K, V, S> {
         self.base.contains_key(rt, key)
     }
 
-    /// Stores a pair, also in the place of one of an equal key, and answers whether one was replaced. The faults are `Fault::Capacity` and `Fault::Memory`; then the pair
-    /// was not stored, and key and value come back.
-    pub fn insert<R: Wait>(&mut self, rt: &R, key: K, value: V) -> Result<bool, Refused<K, V>>
+    /// Stores a pair, also in the place of one of an equal key, and names that one, if there was one: `value` and `pair` lend it until the next call. The faults are
+    /// `Fault::Capacity` and `Fault::Memory`; then the pair was not stored, and key and value come back.
+    pub fn insert<R: Wait>(
+        &mut self,
+        rt: &R,
+        key: K,
+        value: V,
+    ) -> Result<Option<Found>, Refused<K, V>>
         ensures keeps { KeepsMap self.old self.new }
-        ensures stored { IfOk result (λ replaced. MapCameToHave K.eq S.hash key value replaced self.old.base.caller self.new.base.caller) }
+        ensures stored { IfOk result (λ old. MapCameToHave K.eq S.hash key value (is_some old) self.old.base.caller self.new.base.caller) }
+        ensures replaced { IfOk result (λ old. HasReplaced K.eq S.hash key value (option_map (λ found. found.word) old) self.old.base.caller.seat.view self.new.base.caller.seat.view) }
+        ensures shown { IfOk result (λ old. IfSome old (λ found. Shows self.new.base.caller found.word)) }
         ensures refused { IfErr result (λ r. WasRefused K.eq S.hash (Insert key value) r.fault self.old.base.caller self.new.base.caller) }
         ensures back { IfErr result (λ r. (r.key ≡ key) × (r.value ≡ value)) }
     {
-        match self.base.insert(rt, key, value) {
-            Ok(old) => Ok(old.is_some()),
-            Err(refused) => Err(refused),
-        }
+        self.base.insert(rt, key, value)
     }
 
-    /// Stores a pair, if the map has none of an equal key: else it comes back. The faults are `Fault::Capacity` and `Fault::Memory`; then the pair comes back, too.
+    /// Stores a pair, if the map has none of an equal key: else it comes back. The pair that is there then is named, its own or the other one: `value` and `pair` lend it until
+    /// the next call. The faults are `Fault::Capacity` and `Fault::Memory`; then the pair comes back, too.
     pub fn try_insert<R: Wait>(
         &mut self,
         rt: &R,
         key: K,
         value: V,
-    ) -> Result<Attempt<K, V>, Refused<K, V>>
+    ) -> Result<(Found, Attempt<K, V>), Refused<K, V>>
         ensures keeps { KeepsMap self.old self.new }
-        ensures tried { IfOk result (λ tried. MapLacked K.eq S.hash key value (has_stored tried) self.old.base.caller self.new.base.caller) }
-        ensures present { IfOk result (CameBack key value) }
+        ensures tried { IfOk result (λ told. MapLacked K.eq S.hash key value (has_stored told.1) self.old.base.caller self.new.base.caller) }
+        ensures there { IfOk result (λ told. MapHasNamed K.eq S.hash key value told.0.word self.old.base.caller self.new.base.caller) }
+        ensures shown { IfOk result (λ told. Shows self.new.base.caller told.0.word) }
+        ensures present { IfOk result (λ told. CameBack key value told.1) }
         ensures refused { IfErr result (λ r. WasRefused K.eq S.hash (TryToInsert key value) r.fault self.old.base.caller self.new.base.caller) }
         ensures back { IfErr result (λ r. (r.key ≡ key) × (r.value ≡ value)) }
     {
-        match self.base.try_insert(rt, key, value) {
-            Ok((_, tried)) => Ok(tried),
-            Err(refused) => Err(refused),
-        }
+        self.base.try_insert(rt, key, value)
     }
 
-    /// Removes the pair of a key, and answers whether there was one. It is dropped once no section that was open before holds it. The faults are `Fault::Capacity` and
-    /// `Fault::Memory`; then no pair was removed.
-    pub fn remove<R: Wait, Q: Form<K, S>>(&mut self, rt: &R, key: &Q) -> Result<bool, Fault>
+    /// Removes the pair of a key, and names it, if there was one: `value` and `pair` lend it until the next call. It is dropped once no section that was open before holds it.
+    /// The faults are `Fault::Capacity` and `Fault::Memory`; then no pair was removed.
+    pub fn take<R: Wait, Q: Form<K, S>>(&mut self, rt: &R, key: &Q) -> Result<Option<Found>, Fault>
         ensures keeps { KeepsMap self.old self.new }
-        ensures removed { IfOk result (λ removed. MapGaveUp K.eq S.hash (Q.stands_for key.now) removed self.old.base.caller self.new.base.caller) }
+        ensures removed { IfOk result (λ taken. MapGaveUp K.eq S.hash (Q.stands_for key.now) (is_some taken) self.old.base.caller self.new.base.caller) }
+        ensures taken { IfOk result (λ taken. IfSome taken (λ found. MapGaveUpNamed K.eq S.hash (Q.stands_for key.now) found.word self.old.base.caller self.new.base.caller)) }
+        ensures shown { IfOk result (λ taken. IfSome taken (λ found. Shows self.new.base.caller found.word)) }
         ensures refused { IfErr result (λ fault. WasRefused K.eq S.hash (Remove (Q.stands_for key.now)) fault self.old.base.caller self.new.base.caller) }
     {
-        match self.base.remove(rt, key) {
-            Ok(taken) => Ok(taken.is_some()),
-            Err(fault) => Err(fault),
-        }
+        self.base.remove(rt, key)
+    }
+
+    /// Lends the pair that the last call has named, for as long as the session is borrowed, whoever replaces or removes it meanwhile.
+    pub fn pair(&self, found: Found) -> (&K, &V)
+        requires shown { Shows self.now.base.caller found.word }
+        ensures { IsPairLent K.eq S.hash self.now.base.caller found.word (result.0.now, result.1.now) }
+    {
+        self.base.pair(found)
+    }
+
+    /// Lends its value.
+    pub fn value(&self, found: Found) -> &V
+        requires shown { Shows self.now.base.caller found.word }
+        ensures { (key : K) × IsPairLent K.eq S.hash self.now.base.caller found.word (key, result.now) }
+    {
+        self.base.pair(found).1
     }
 
     /// Stores a value that is made, if the map has no pair of this key yet, and answers whether it was stored. The closure is called where the key was missing; if another

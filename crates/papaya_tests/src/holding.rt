@@ -1,205 +1,168 @@
-//! What a set holds, by one session after another, and by two threads, which also meet there; what it says of all its elements, and how they are gone over.
-ghost use Rattle.std.specs.Prelude.{◌≡◌};
-
-use papaya::{Fault, HashSet, IdSource, Pass, SetSession, SharedSet};
+//! What a set holds, by one session and by two threads, in each mode; how it is built, and what refuses one, or a guard and a pass of another set.
+use papaya::{Collector, Fault, HashSet, IdSource, ResizeMode, SetSession};
 use std::alloc::Global;
-use std::hash::{BuildHasherDefault, DefaultHasher};
+use std::hash::{BuildHasherDefault, DefaultHasher, RandomState};
 use std::sync::Wait;
 use std::test::Fail;
 use std::thread::{self, Threads};
-use std::time::{Clock, Duration};
 
-/// How many keys there are.
-const KEYS: u64 = 300;
+type Hashing = BuildHasherDefault<DefaultHasher>;
 
-/// How often one looks for what another one leaves, a millisecond apart.
-const LOOKS: u64 = 20_000;
-
-pub(crate) type Hashing = BuildHasherDefault<DefaultHasher>;
+type Set = HashSet<u64, Hashing>;
 
 type Own<'m> = SetSession<'m, u64, Hashing>;
 
-/// A set of three keys: what insertions and removals say of them.
-fn alone<R: Wait>(rt: &R, alloc: Global) -> Result<[bool; 7], Fault> {
+type Told<T> = Result<T, Fault>;
+
+/// Whether a set for which there is no table is refused, and a source of one number still has that then, and gives none any more.
+fn made(alloc: Global, one: RandomState, other: RandomState) -> [bool; 4] {
+    let mut ids = IdSource::starting_at(u64::MAX - 1);
+    let many = Set::with_capacity_and_hasher(alloc, &mut ids, u64::MAX, Hashing::default());
+    let still = HashSet::<u64>::with_capacity(alloc, &mut ids, 100, one);
+    let none = Set::with_hasher(alloc, &mut ids, Hashing::default());
+    let new = HashSet::<u64>::new(alloc, &mut ids, other);
+    [
+        matches!(many, Err(Fault::Capacity)),
+        still.is_ok(),
+        matches!(none, Err(Fault::CollectorsUsedUp)),
+        matches!(new, Err(Fault::CollectorsUsedUp)),
+    ]
+}
+
+/// A set of this mode, which was built with all that can be chosen.
+fn built(alloc: Global, hasher: RandomState, mode: ResizeMode) -> Told<Set> {
     let mut ids = IdSource::new();
-    let set = HashSet::with_hasher(alloc, &mut ids, Hashing::default())?;
+    let collector = Collector::new(&mut ids, 1, 4)?.batch_size(1);
+    let builder = HashSet::builder(hasher)
+        .hasher(Hashing::default())
+        .capacity(10);
+    let builder = builder.collector(collector).shards(2).resize_mode(mode);
+    builder.build(alloc, &mut ids)
+}
+
+/// What a session says of a set that is empty, and of one key.
+fn one<R: Wait>(rt: &R, set: &mut Own<'_>) -> Told<[bool; 10]> {
+    Ok([
+        set.clear(rt).is_ok(),
+        set.retain(rt, |_| false).is_ok(),
+        !set.remove(rt, &42)?,
+        set.is_empty(),
+        set.insert(rt, 42)?,
+        !set.insert(rt, 42)?,
+        set.contains(rt, &42),
+        set.remove(rt, &42)?,
+        set.pin().get(rt, &42).is_none(),
+        !set.pin().contains(rt, &42),
+    ])
+}
+
+/// The sum of the elements that a walk shows.
+fn sum<R: Wait>(rt: &R, set: &mut Own<'_>) -> Told<u64> {
+    let mut sum = 0u64;
+    set.each(rt, |key| sum = u64::wrapping_add(sum, *key))?;
+    Ok(sum)
+}
+
+/// What a session says of a set of three keys, of which it lets one go, and of as many as it has then.
+fn three<R: Wait>(rt: &R, alloc: Global, set: &mut Own<'_>) -> Told<[bool; 12]> {
+    Ok([
+        matches!(set.reserve(rt, u64::MAX), Err(Fault::Capacity)),
+        set.reserve(rt, 100).is_ok(),
+        set.extend(rt, [42, 16, 38, 16]).is_ok(),
+        set.pin().get(rt, &38).copied() == Some(38),
+        set.len() == 3,
+        sum(rt, set)? == 96,
+        set.elements(rt, alloc)?.len() == 3,
+        matches!(set.walk(vec![in alloc; 9, 38]?).next(rt), Some(38)),
+        set.retain(rt, |key| *key != 16).is_ok(),
+        !set.contains(rt, &16),
+        sum(rt, set)? == 80,
+        set.clear(rt).is_ok(),
+    ])
+}
+
+/// Puts 64 keys into the set, or takes them out: which of them were new, or were there, a bit for each.
+fn changes<R: Wait>(rt: &R, mut set: Own<'_>, takes: bool) -> Told<u64> {
+    let mut bits = 0u64;
+    for key in 0..64u64 {
+        let done = if takes {
+            set.remove(rt, &key)?
+        } else {
+            set.insert(rt, key)?
+        };
+        bits = u64::wrapping_add(u64::wrapping_mul(bits, 2), u64::from(done));
+        set.refresh();
+    }
+    Ok(bits)
+}
+
+/// Two threads do so. Answers for which keys just one of them has.
+fn both<R: Threads + Wait + Sync>(rt: &R, set: &Set, takes: bool) -> Told<u64> {
+    let (first, second) = (set.session()?, set.session()?);
+    let (one, other) = thread::join(
+        rt,
+        || changes(rt, first, takes),
+        || changes(rt, second, takes),
+    );
+    Ok(one? ^ other?)
+}
+
+/// All that, of one set.
+fn says<R: Threads + Wait + Sync>(
+    rt: &R,
+    alloc: Global,
+    set: &Set,
+) -> Told<([bool; 10], [bool; 12], [u64; 3])> {
     let mut session = set.session()?;
-    let lacks = !session.contains(rt, &42u64);
-    let new = session.insert(rt, 42)?;
-    let again = session.insert(rt, 42)?;
-    let has = session.contains(rt, &42);
-    session.refresh();
-    let removed = session.remove(rt, &42)?;
-    let gone = !session.contains(rt, &42) && !session.remove(rt, &42)?;
-    let none = gone && !session.pin().contains(rt, &42) && session.pin().get(rt, &42).is_none();
-    session.extend(rt, [42, 16, 38])?;
-    let both = session.contains(rt, &42) && session.contains(rt, &16);
-    let all = both && session.pin().get(rt, &38).copied() == Some(38);
-    Ok([lacks, new, !again, has, removed, none, all])
+    let (one, three) = (one(rt, &mut session)?, three(rt, alloc, &mut session)?);
+    let (new, taken) = (both(rt, set, false)?, both(rt, set, true)?);
+    Ok((one, three, [new, taken, set.register()?.enter().len()]))
 }
 
-/// Puts all keys into the set, and takes them out then: answers how many were new, and how many it has taken out.
-fn works<R: Wait>(rt: &R, mut session: Own<'_>) -> Result<(u64, u64), Fault> {
-    let (mut new, mut taken) = (0u64, 0u64);
-    for key in 0..KEYS {
-        new = u64::wrapping_add(new, u64::from(session.insert(rt, key)?));
-    }
-    for key in 0..KEYS {
-        taken = u64::wrapping_add(taken, u64::from(session.remove(rt, &key)?));
-        session.refresh();
-    }
-    Ok((new, taken))
+/// Whether a call was refused what is of another set.
+fn is_foreign<T: Drop>(told: Told<T>) -> bool {
+    matches!(told, Err(Fault::ForeignGuard))
 }
 
-/// Two threads do so. Answers how many were new to both, how many both have taken out, and how many are left: each key that was new was taken out once, whoever was faster.
-fn works_twice<R: Threads + Wait + Sync>(rt: &R, alloc: Global) -> Result<(u64, u64, u64), Fault> {
+/// Whether calls on a set refuse a guard and a pass of another one, and go with their own.
+fn foreign<R: Wait>(rt: &R, alloc: Global) -> Told<[bool; 10]> {
     let mut ids = IdSource::new();
-    let set = HashSet::with_hasher(alloc, &mut ids, Hashing::default())?;
-    let first = set.session()?;
-    let second = first.another()?;
-    let (one, other) = thread::join(rt, || works(rt, first), || works(rt, second));
-    let ((a, b), (c, d)) = (one?, other?);
-    let (new, taken) = (u64::wrapping_add(a, c), u64::wrapping_add(b, d));
-    Ok((new, taken, set.session()?.len()))
-}
-
-/// Whether calls on a set go with a guard and a pass of it, and one that puts a key refuses a guard of another set, and hands the key back.
-fn guarded<R: Wait>(rt: &R, alloc: Global) -> Result<[bool; 5], Fault> {
-    let mut ids = IdSource::new();
-    let own = HashSet::<u64, Hashing>::with_hasher(alloc, &mut ids, Hashing::default())?;
-    let other = HashSet::<u64, Hashing>::with_hasher(alloc, &mut ids, Hashing::default())?;
+    let own = Set::with_hasher(alloc, &mut ids, Hashing::default())?;
+    let other = Set::with_hasher(alloc, &mut ids, Hashing::default())?;
     let set = own.shared();
     let mut guard = own.session()?;
     let mut strange = other.session()?;
     let mut pass = set.pass();
-    let new = set.insert(rt, 1, &mut guard)? && guard.number() != strange.number();
-    let refused = match set.insert(rt, 1, &mut strange) {
+    let mut unknown = strange.pass();
+    let back = match set.insert(rt, 1, &mut strange) {
         Err(refused) => matches!(refused.fault, Fault::ForeignGuard) && refused.key == 1,
         Ok(_) => false,
     };
     Ok([
-        new,
-        refused,
+        back,
+        is_foreign(set.remove(rt, &1, &mut strange)),
+        is_foreign(set.contains(rt, &1, &strange, &mut pass)),
+        is_foreign(set.contains(rt, &1, &guard, &mut unknown)),
+        is_foreign(set.get(rt, &1, &guard, &mut unknown)),
+        is_foreign(guard.contains_by(rt, &1, &mut unknown)),
+        matches!(set.insert(rt, 1, &mut guard), Ok(true)),
         matches!(set.contains(rt, &1, &guard, &mut pass), Ok(true)),
-        set.get(rt, &1, &guard, &mut pass)?.copied() == Some(1),
-        set.remove(rt, &1, &mut guard)?,
+        matches!(set.get(rt, &1, &guard, &mut pass), Ok(Some(1))),
+        matches!(set.remove(rt, &1, &mut guard), Ok(true)),
     ])
 }
 
-/// A set of three keys is counted, shown, sifted and cleared: what was counted, the sum of what was shown, and whether all else is as it must be.
-fn counts<R: Wait>(rt: &R, alloc: Global) -> Result<([u64; 5], [bool; 5]), Fault> {
-    let mut ids = IdSource::new();
-    let set = HashSet::with_hasher(alloc, &mut ids, Hashing::default())?;
-    let mut session = set.session()?;
-    let (before, empty) = (session.len(), session.is_empty());
-    session.reserve(rt, 100)?;
-    session.extend(rt, [42u64, 16, 38, 16])?;
-    let (full, some) = (session.len(), !session.is_empty());
-    let mut sum = 0u64;
-    session.each(rt, |key| sum = u64::wrapping_add(sum, *key))?;
-    session.retain(rt, |key| *key != 16)?;
-    let kept = session.len();
-    let sifted = session.contains(rt, &38) && !session.contains(rt, &16);
-    session.clear(rt)?;
-    let after = session.len();
-    let gone = session.is_empty() && !session.contains(rt, &42);
-    let refused = matches!(session.reserve(rt, u64::MAX), Err(Fault::Capacity));
-    let counts = [before, full, sum, kept, after];
-    Ok((counts, [empty, some, sifted, gone, refused]))
-}
-
 #[test]
-fn a_set_has_what_it_was_left_and_says_so(rt: HostRuntime) -> Result<(), Fail> {
-    let (new, taken, left) = works_twice(&rt, rt.alloc())?;
-    assert_eq!(rt; (new >= KEYS, taken, left), (true, new, 0));
-    assert_eq!(rt; alone(&rt, rt.alloc())?, [true; 7]);
-    assert_eq!(rt; guarded(&rt, rt.alloc())?, [true; 5]);
-    assert_eq!(rt; counts(&rt, rt.alloc())?, ([0, 3, 96, 2, 0], [true; 5]));
-    Ok(())
-}
-
-/// Whether this key comes to be there.
-fn meets<R: Wait + Clock>(
-    rt: &R,
-    guard: &Own<'_>,
-    pass: &mut Pass<u64, (), Hashing>,
-    key: u64,
-) -> Result<bool, Fault>
-    requires own { pass.old.base.seat.base ≡ guard.now.session.base.caller.blocks.now.words.id.views_name }
-{
-    for turn in 0..LOOKS {
-        if guard.contains_by(rt, &key, pass)? {
-            return Ok(true);
-        }
-        thread::sleep(rt, Duration::from_millis(1));
+fn a_set_has_what_it_was_left_and_refuses_what_is_of_another_one(
+    rt: HostRuntime,
+) -> Result<(), Fail> {
+    let (hasher, other) = (RandomState::new(&rt)?, RandomState::new(&rt)?);
+    assert_eq!(rt; made(rt.alloc(), hasher, other), [true; 4]);
+    assert_eq!(rt; foreign(&rt, rt.alloc())?, [true; 10]);
+    for mode in [ResizeMode::Incremental(1), ResizeMode::Blocking] {
+        let set = built(rt.alloc(), RandomState::new(&rt)?, mode)?;
+        let said = says(&rt, rt.alloc(), &set)?;
+        assert_eq!(rt; said, ([true; 10], [true; 12], [u64::MAX, u64::MAX, 0]));
     }
-    Ok(false)
-}
-
-/// Puts one key there by a session of its own, and waits until it has found the other one, by a pass under the guard.
-fn leaves<R: Wait + Clock>(
-    rt: &R,
-    set: &SharedSet<'_, u64, Hashing>,
-    guard: &Own<'_>,
-    own: u64,
-    other: u64,
-) -> Result<bool, Fault> {
-    let mut session = set.session()?;
-    let _ = session.insert(rt, own)?;
-    let mut pass = guard.pass();
-    meets(rt, guard, &mut pass, other)
-}
-
-/// Two threads do so.
-fn meet<R: Threads + Wait + Clock + Sync>(rt: &R, alloc: Global) -> Result<(bool, bool), Fault> {
-    let mut ids = IdSource::new();
-    let set = HashSet::with_hasher(alloc, &mut ids, Hashing::default())?;
-    let shared = set.shared();
-    let guard = set.session()?;
-    let (one, other) = thread::join(
-        rt,
-        || leaves(rt, &shared, &guard, 1, 2),
-        || leaves(rt, &shared, &guard, 2, 1),
-    );
-    Ok((one?, other?))
-}
-
-/// Puts one of two keys there, goes over the set until it is shown the other one, and removes then what was there before. Answers whether each time it was shown its own key.
-fn sweeps<R: Wait + Clock>(rt: &R, mut set: Own<'_>, own: u64) -> Result<bool, Fault> {
-    let other = own ^ 1;
-    let _ = set.insert(rt, own)?;
-    for _ in 0..LOOKS {
-        let (mut stays, mut met) = (false, false);
-        set.each(rt, |key| {
-            stays = stays || *key == own;
-            met = met || *key == other;
-        })?;
-        if met || !stays {
-            set.retain(rt, |key| *key >= KEYS)?;
-            return Ok(stays);
-        }
-        set.refresh();
-        thread::sleep(rt, Duration::from_millis(1));
-    }
-    Ok(false)
-}
-
-/// Two threads do so, in a set of many keys. Answers whether both were, and how many are left.
-fn sweep<R: Threads + Wait + Clock + Sync>(rt: &R, alloc: Global) -> Result<(bool, u64), Fault> {
-    let mut ids = IdSource::new();
-    let set = HashSet::with_hasher(alloc, &mut ids, Hashing::default())?;
-    let mut session = set.session()?;
-    session.extend(rt, 0..KEYS)?;
-    let (one, two) = (session.another()?, session.another()?);
-    let (one, other) = thread::join(rt, || sweeps(rt, one, KEYS), || sweeps(rt, two, KEYS + 1));
-    let (one, other) = (one?, other?);
-    Ok((one && other, session.len()))
-}
-
-// Were the threads served one after another, the first one would neither find nor be shown the key of the second.
-#[test]
-fn two_threads_find_and_are_shown_what_the_other_one_has_put(rt: HostRuntime) -> Result<(), Fail> {
-    assert_eq!(rt; meet(&rt, rt.alloc())?, (true, true));
-    assert_eq!(rt; sweep(&rt, rt.alloc())?, (true, 2));
     Ok(())
 }

@@ -2,6 +2,4 @@
 #![tactic(auto)]
 
 #[cfg(test)]
-mod sweeping;
-#[cfg(test)]
 mod whole;

@@ -1,5 +1,6 @@
-//! Calls on the whole map: two threads count what both have stored, keys are found while room is made, and all pairs are removed.
-use papaya_map::{Fault, HashMap, IdSource, ResizeMode, Session};
+//! Calls on a whole map, in each mode: what one session counts, is shown and keeps, few keys and many; keys that are found while another thread makes room; and two threads
+//! that go over all pairs until they meet.
+use papaya_map::{Fault, HashMap, IdSource, Onlooker, ResizeMode, Session};
 use std::alloc::Global;
 use std::hash::{BuildHasherDefault, DefaultHasher};
 use std::sync::Wait;
@@ -7,59 +8,131 @@ use std::test::Fail;
 use std::thread::{self, Threads};
 use std::time::{Clock, Duration};
 
-/// How many keys each thread stores.
-const EACH: u64 = 200;
+/// How many keys there are at first.
+const FEW: u64 = 1_024;
 
-/// How often each of them looks, a millisecond apart.
-pub(crate) const LOOKS: u64 = 20_000;
+/// How many there are in the end.
+const MANY: u64 = 10_000;
 
 /// How often all keys are looked up while room is made.
-const ROUNDS: u64 = 16;
+const ROUNDS: u64 = 32;
+
+/// How many keys stay.
+const STAY: u64 = 100;
+
+/// How often one looks for what the other one leaves, a millisecond apart.
+const LOOKS: u64 = 20_000;
 
 /// How the map comes to its next tables.
 const MODES: [ResizeMode; 2] = [ResizeMode::Incremental(64), ResizeMode::Blocking];
 
-pub(crate) type Hashing = BuildHasherDefault<DefaultHasher>;
+type Hashing = BuildHasherDefault<DefaultHasher>;
 
-pub(crate) type Own<'m> = Session<'m, u64, u64, Hashing>;
+type Map = HashMap<u64, u64, Hashing>;
 
-pub(crate) type Told<T> = Result<T, Fault>;
+type Own<'m> = Session<'m, u64, u64, Hashing>;
 
-/// Stores so many keys from this one on, each with its double.
-pub(crate) fn stores<R: Wait>(rt: &R, session: &mut Own<'_>, from: u64, many: u64) -> Told<()> {
-    for n in 0..many {
-        let key = u64::wrapping_add(from, n);
-        let _ = session.insert(rt, key, u64::wrapping_mul(key, 2))?;
-    }
-    Ok(())
-}
+type Told<T> = Result<T, Fault>;
 
-/// Whether the map comes to have so many pairs.
-fn meets<R: Wait + Clock>(rt: &R, session: &mut Own<'_>, many: u64) -> bool {
-    for _ in 0..LOOKS {
-        if session.len() == many {
-            return true;
-        }
-        session.refresh();
-        thread::sleep(rt, Duration::from_millis(1));
-    }
-    false
-}
-
-/// Stores its keys, and waits until those of both are counted.
-fn counts<R: Wait + Clock>(rt: &R, mut session: Own<'_>, from: u64) -> Told<bool> {
-    stores(rt, &mut session, from, EACH)?;
-    Ok(meets(rt, &mut session, EACH * 2))
-}
-
-/// Two threads do so, each with keys of its own. Answers whether each has counted all.
-fn count<R: Threads + Wait + Clock + Sync>(rt: &R, alloc: Global) -> Told<(bool, bool)> {
+/// A map of this mode.
+fn made(alloc: Global, mode: ResizeMode) -> Told<Map> {
     let mut ids = IdSource::new();
-    let map = HashMap::with_hasher(alloc, &mut ids, Hashing::default())?;
-    let first = map.session()?;
-    let second = first.another()?;
-    let (one, other) = thread::join(rt, || counts(rt, first, 0), || counts(rt, second, EACH));
-    Ok((one?, other?))
+    let builder = HashMap::builder(Hashing::default()).resize_mode(mode);
+    builder.build(alloc, &mut ids)
+}
+
+/// Stores so many keys, each with its successor, and answers how many pairs are counted then.
+fn fills<R: Wait>(rt: &R, session: &mut Own<'_>, many: u64) -> Told<u64> {
+    for key in 0..many {
+        let _ = session.insert(rt, key, u64::wrapping_add(key, 1))?;
+    }
+    Ok(session.len())
+}
+
+/// How many of so many keys it finds, each with so much more.
+fn finds<R: Wait>(rt: &R, session: &mut Own<'_>, many: u64, more: u64) -> u64 {
+    let mut found = 0u64;
+    for key in 0..many {
+        let there = session.get(rt, &key).copied() == Some(u64::wrapping_add(key, more));
+        found = u64::wrapping_add(found, u64::from(there));
+    }
+    found
+}
+
+/// Takes one from the value of each of so many keys, and removes them if that is wished.
+fn lowers<R: Wait>(rt: &R, session: &mut Own<'_>, many: u64, removes: bool) -> Told<u64> {
+    for key in 0..many {
+        if removes {
+            let _ = session.remove(rt, &key)?;
+        } else {
+            let _ = session.update(rt, &key, |value| u64::wrapping_sub(*value, 1))?;
+        }
+    }
+    Ok(session.len())
+}
+
+/// How many of so many keys a walk shows, each with its successor, and how many other pairs.
+fn shown<R: Wait>(rt: &R, session: &mut Own<'_>, many: u64) -> Told<(u64, u64)> {
+    let (mut own, mut others) = (0u64, 0u64);
+    session.each(rt, |key, value| {
+        if *key < many && u64::wrapping_add(*key, 1) == *value {
+            own = u64::wrapping_add(own, 1);
+        } else {
+            others = u64::wrapping_add(others, 1);
+        }
+    })?;
+    Ok((own, others))
+}
+
+/// What is said of a map without a pair, also where it has room, and of two keys that an iterator gave.
+fn few<R: Wait>(rt: &R, map: &mut Own<'_>) -> [bool; 10] {
+    [
+        map.clear(rt).is_ok(),
+        map.retain(rt, |_, _| true).is_ok(),
+        matches!(map.reserve(rt, u64::MAX), Err(Fault::Capacity)),
+        map.reserve(rt, 1_000).is_ok(),
+        map.is_empty(),
+        map.extend(rt, [(42, 1), (16, 2), (42, 3)]).is_ok(),
+        map.get(rt, &42).copied() == Some(3),
+        map.len() == 2,
+        map.clear(rt).is_ok(),
+        map.is_empty(),
+    ]
+}
+
+/// What is said of a hundred keys: all are kept, a few of them, and none.
+fn kept<R: Wait>(rt: &R, map: &mut Own<'_>) -> Told<[bool; 7]> {
+    Ok([
+        fills(rt, map, 100)? == 100,
+        map.retain(rt, |_, _| true).is_ok(),
+        shown(rt, map, 100)? == (100, 0),
+        map.retain(rt, |_, value| *value <= 5).is_ok(),
+        shown(rt, map, 5)? == (5, 0),
+        map.retain(rt, |_, _| false).is_ok(),
+        map.is_empty(),
+    ])
+}
+
+/// What is said of many keys, which are stored, lowered, removed, and stored anew.
+fn many<R: Wait>(rt: &R, map: &mut Own<'_>) -> Told<[bool; 8]> {
+    Ok([
+        fills(rt, map, FEW)? == FEW,
+        finds(rt, map, FEW, 1) == FEW,
+        lowers(rt, map, FEW, false)? == FEW,
+        finds(rt, map, FEW, 0) == FEW,
+        lowers(rt, map, FEW, true)? == 0,
+        fills(rt, map, MANY)? == MANY,
+        finds(rt, map, MANY, 1) == MANY,
+        shown(rt, map, MANY)? == (MANY, 0),
+    ])
+}
+
+/// All that, of one session.
+fn says<R: Wait>(rt: &R, map: &Map) -> Told<([bool; 10], [bool; 7], [bool; 8])> {
+    let mut session = map.session()?;
+    let few = few(rt, &mut session);
+    let kept = kept(rt, &mut session)?;
+    Ok((few, kept, many(rt, &mut session)?))
 }
 
 /// Makes room again and again, twice as much each time.
@@ -70,75 +143,61 @@ fn reserves<R: Wait>(rt: &R, mut session: Own<'_>) -> Told<()> {
     Ok(())
 }
 
-/// How often it has found a key with its double, looking for each of them again and again.
-fn finds<R: Wait>(rt: &R, mut session: Own<'_>) -> u64 {
+/// How often it has found a key, looking for each of them again and again.
+fn reads<R: Wait>(rt: &R, mut session: Own<'_>) -> u64 {
     let mut found = 0u64;
     for _ in 0..ROUNDS {
-        for key in 0..EACH {
-            let there = session.get(rt, &key).copied() == Some(u64::wrapping_mul(key, 2));
-            found = u64::wrapping_add(found, u64::from(there));
-        }
+        found = u64::wrapping_add(found, finds(rt, &mut session, FEW, 1));
         session.refresh();
     }
     found
 }
 
-/// One thread makes room in a map of this mode while another one looks for each key. Answers how often it has found one, and how many there are then.
-fn grows<R: Threads + Wait + Sync>(rt: &R, alloc: Global, mode: ResizeMode) -> Told<(u64, u64)> {
-    let mut ids = IdSource::new();
-    let builder = HashMap::builder(Hashing::default()).resize_mode(mode);
-    let map = builder.build(alloc, &mut ids)?;
+/// One thread makes room while another one looks for each key. Answers how often it has found one, and how many there are then.
+fn grows<R: Threads + Wait + Sync>(rt: &R, map: &Map) -> Told<(u64, u64)> {
     let mut first = map.session()?;
     let (second, third) = (first.another()?, first.another()?);
-    stores(rt, &mut first, 0, EACH)?;
-    let (done, found) = thread::join(rt, || reserves(rt, second), || finds(rt, third));
+    let _ = fills(rt, &mut first, FEW)?;
+    let (done, found) = thread::join(rt, || reserves(rt, second), || reads(rt, third));
     done?;
     Ok((found, first.len()))
 }
 
 // Each lookup finds its key, whatever tables there are. A body that served one thread after the other would pass, too.
 #[test]
-fn keys_are_found_while_room_is_made(rt: HostRuntime) -> Result<(), Fail> {
+fn a_map_says_of_all_its_pairs_what_was_stored(rt: HostRuntime) -> Result<(), Fail> {
     for mode in MODES {
-        assert_eq!(rt; grows(&rt, rt.alloc(), mode)?, (ROUNDS * EACH, EACH));
+        let map = made(rt.alloc(), mode)?;
+        let (said, grown) = (says(&rt, &map)?, grows(&rt, &made(rt.alloc(), mode)?)?);
+        assert_eq!(rt; said, ([true; 10], [true; 7], [true; 8]));
+        assert_eq!(rt; grown, (ROUNDS * FEW, FEW));
     }
     Ok(())
 }
 
-/// The key that was stored last, and the one that says that it was met.
-const LAST: u64 = EACH;
-
-const MET: u64 = EACH + 1;
-
-/// Removes all pairs again and again, until it has met the last key; says so then. Answers whether that came.
-fn clears<R: Wait + Clock>(rt: &R, mut session: Own<'_>) -> Told<bool> {
-    for _ in 0..LOOKS {
-        let met = session.contains_key(rt, &LAST);
-        session.clear(rt)?;
-        session.refresh();
-        if met {
-            let _ = session.insert(rt, MET, 0)?;
-            return Ok(true);
-        }
-        thread::sleep(rt, Duration::from_millis(1));
-    }
-    Ok(false)
+/// An onlooker that counts what it is shown.
+#[derive(Drop)]
+struct Counts {
+    pairs: u64,
 }
 
-/// Stores keys, and the last one anew where it is gone, until the other one says that it has met that. Answers whether it was gone once.
-fn leaves<R: Wait + Clock>(rt: &R, mut session: Own<'_>) -> Told<bool> {
-    stores(rt, &mut session, 0, EACH)?;
-    let _ = session.insert(rt, LAST, 0)?;
-    let mut gone = false;
+impl Onlooker<u64, u64> for Counts {
+    ghost may_see = { λ counts. Unit {0} };
+
+    ghost has_seen = { λ counts key value n. Unit {0} };
+
+    fn sees(&mut self, _: &u64, _: &u64) {
+        self.pairs = u64::wrapping_add(self.pairs, 1);
+    }
+}
+
+/// Stores one further key, and goes over the pairs until it is shown that of the other one, too. Answers whether that came, and each time all were shown that stay.
+fn meets<R: Wait + Clock>(rt: &R, mut session: Own<'_>, own: u64) -> Told<bool> {
+    let _ = session.insert(rt, own, 0)?;
     for _ in 0..LOOKS {
-        let met = session.contains_key(rt, &MET);
-        let there = session.contains_key(rt, &LAST);
-        gone = gone || !there;
-        if met {
-            return Ok(gone);
-        }
-        if !there {
-            let _ = session.insert(rt, LAST, 0)?;
+        let (staying, others) = shown(rt, &mut session, STAY)?;
+        if staying != STAY || others == 2 {
+            return Ok(staying == STAY);
         }
         session.refresh();
         thread::sleep(rt, Duration::from_millis(1));
@@ -146,57 +205,28 @@ fn leaves<R: Wait + Clock>(rt: &R, mut session: Own<'_>) -> Told<bool> {
     Ok(false)
 }
 
-/// How many of the keys that were stored before the last one are there.
-fn left<R: Wait>(rt: &R, mut session: Own<'_>) -> u64 {
-    let mut found = 0u64;
-    for key in 0..EACH {
-        found = u64::wrapping_add(found, u64::from(session.contains_key(rt, &key)));
-    }
-    found
-}
-
-/// One thread stores keys while another one removes all pairs. Answers what each has met, and how many keys are left.
-fn empties<R: Threads + Wait + Clock + Sync>(rt: &R, alloc: Global) -> Told<(bool, bool, u64)> {
-    let mut ids = IdSource::new();
-    let map = HashMap::with_hasher(alloc, &mut ids, Hashing::default())?;
-    let first = map.session()?;
+/// Two threads do so. Answers whether both have met, and how many pairs an onlooker is shown then.
+fn meet<R: Threads + Wait + Clock + Sync>(rt: &R, map: &Map) -> Told<([bool; 2], u64)> {
+    let mut first = map.session()?;
     let (second, third) = (first.another()?, first.another()?);
-    let (gone, met) = thread::join(rt, || leaves(rt, first), || clears(rt, second));
-    Ok((gone?, met?, left(rt, third)))
+    let _ = fills(rt, &mut first, STAY)?;
+    let (one, other) = thread::join(
+        rt,
+        || meets(rt, second, STAY),
+        || meets(rt, third, STAY + 1),
+    );
+    let (end, counts) = first.shows_to(rt, Counts { pairs: 0 });
+    end?;
+    Ok(([one?, other?], counts.pairs))
 }
 
-// The one that stores goes on until the other one has met its last key, and the other one removes all pairs until it has: were they served one after another, whoever came first
-// would wait in vain.
+// Were the threads served one after another, the first one would not be shown the key of the second. Each walk shows all keys that stay, whatever comes meanwhile.
 #[test]
-fn all_pairs_are_removed_while_others_store(rt: HostRuntime) -> Result<(), Fail> {
-    assert_eq!(rt; empties(&rt, rt.alloc())?, (true, true, 0));
-    Ok(())
-}
-
-/// Of one session: what it counts of a map of this mode without a pair, after room was made, after keys were stored, after the odd ones were removed, and after all were.
-fn alone<R: Wait>(rt: &R, alloc: Global, mode: ResizeMode) -> Told<([bool; 3], [u64; 2])> {
-    let mut ids = IdSource::new();
-    let builder = HashMap::builder(Hashing::default()).resize_mode(mode);
-    let map = builder.build(alloc, &mut ids)?;
-    let mut session = map.session()?;
-    let first = session.is_empty();
-    session.reserve(rt, 1000)?;
-    let then = session.is_empty();
-    stores(rt, &mut session, 0, EACH)?;
-    let stored = session.len();
-    session.retain(rt, |key, _| *key % 2 == 0)?;
-    let kept = session.len();
-    session.clear(rt)?;
-    Ok(([first, then, session.is_empty()], [stored, kept]))
-}
-
-// Were the threads served one after another, the first one would count its own keys alone.
-#[test]
-fn what_was_stored_is_counted_by_one_and_by_two_threads(rt: HostRuntime) -> Result<(), Fail> {
-    assert_eq!(rt; count(&rt, rt.alloc())?, (true, true));
+fn two_walks_show_what_stays_and_meet_what_comes(rt: HostRuntime) -> Result<(), Fail> {
     for mode in MODES {
-        let counted = alone(&rt, rt.alloc(), mode)?;
-        assert_eq!(rt; counted, ([true; 3], [EACH, EACH / 2]));
+        let map = made(rt.alloc(), mode)?;
+        let met = meet(&rt, &map)?;
+        assert_eq!(rt; met, ([true; 2], STAY + 2));
     }
     Ok(())
 }

@@ -5,7 +5,6 @@ use std::alloc::Global;
 use std::sync::atomic::AtomicU64;
 use std::sync::atomic::Ordering::SeqCst;
 use std::sync::{Arc, Wait};
-use std::test::Fail;
 use std::thread::{self, Threads};
 
 /// How many values each of two threads stores.
@@ -55,13 +54,14 @@ fn stores_twice<R: Threads + Wait + Sync>(
     Ok((one, other, drops.load(SeqCst)))
 }
 
-// What is in the map at its end, and waits there, is dropped with it: at least a value of each key.
-#[test]
-fn each_value_that_was_stored_is_dropped_once(rt: HostRuntime) -> Result<(), Fail> {
-    let drops = Arc::new(rt.alloc(), AtomicU64::new(0))?;
-    let (one, other, before) = stores_twice(&rt, rt.alloc(), &drops)?;
-    assert_eq!(rt; (one, other), (Some(EACH), Some(EACH)));
-    assert!(rt; before <= 2 * EACH - KEYS);
-    assert_eq!(rt; drops.load(SeqCst), 2 * EACH);
-    Ok(())
+/// Whether each value that two threads have stored was dropped once: those that are in the map at its end, or wait there, with it, and these are at least one of each key.
+pub(crate) fn are_dropped_once<R: Threads + Wait + Sync>(
+    rt: &R,
+    alloc: Global,
+) -> Result<bool, Fault> {
+    let drops = Arc::new(alloc, AtomicU64::new(0))?;
+    let (one, other, before) = stores_twice(rt, alloc, &drops)?;
+    let after = drops.load(SeqCst);
+    let stored = one == Some(EACH) && other == Some(EACH);
+    Ok(stored && before <= 2 * EACH - KEYS && after == 2 * EACH)
 }

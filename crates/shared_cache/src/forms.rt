@@ -4,14 +4,14 @@ use map_forms::Text;
 use papaya_map::{Fault, HashMap, IdSource, Session};
 use std::alloc::Global;
 use std::sync::Wait;
-use std::test::Fail;
 use std::thread::{self, Threads};
 
 type Own<'m> = Session<'m, Text, u64, Hashing>;
 
 /// Stores this text with its length.
 fn stores<R: Wait>(rt: &R, alloc: Global, mut own: Own<'_>, text: &str) -> Result<bool, Fault> {
-    Ok(own.insert(rt, Text::new(alloc, text)?, text.len() as u64)?)
+    let old = own.insert(rt, Text::new(alloc, text)?, text.len() as u64)?;
+    Ok(old.is_some())
 }
 
 /// What a session finds of these texts.
@@ -24,13 +24,13 @@ fn finds<R: Wait>(rt: &R, session: &mut Own<'_>, texts: [&str; 3]) -> [Option<u6
     ]
 }
 
-/// Two threads store a text each. Answers what a session finds of the two and of a third one, whether it says that the first is there, and what a pin and a guard with a
-/// pass find of it.
+/// Two threads store a text each. Answers what a session finds of the two and of a third one, whether it says that the first is there, what a pin and a guard with a pass find
+/// of it, and whether it was removed then.
 fn both<R: Threads + Wait + Sync>(
     rt: &R,
     alloc: Global,
     texts: [&str; 3],
-) -> Result<([Option<u64>; 3], [bool; 3]), Fault> {
+) -> Result<([Option<u64>; 3], [bool; 4]), Fault> {
     let [one, other, _] = texts;
     let mut ids = IdSource::new();
     let map = HashMap::with_hasher(alloc, &mut ids, Hashing::default())?;
@@ -48,13 +48,12 @@ fn both<R: Threads + Wait + Sync>(
     let pinned = third.pin().get_key_value(rt, &one).is_some();
     let there = third.contains_key(rt, &one);
     let found = finds(rt, &mut third, texts);
-    Ok((found, [there, pinned, passed]))
+    let removed = third.remove(rt, &one)?;
+    Ok((found, [there, pinned, passed, removed]))
 }
 
-#[test]
-fn a_text_is_found_by_a_lent_one(rt: HostRuntime) -> Result<(), Fail> {
-    let (found, there) = both(&rt, rt.alloc(), ["cod", "pike", "perch"])?;
-    assert_eq!(rt; found, [Some(3), Some(4), None]);
-    assert_eq!(rt; there, [true, true, true]);
-    Ok(())
+/// Whether what two threads have stored at texts is found by lent ones, and removed, and nothing is at a third.
+pub(crate) fn are_found<R: Threads + Wait + Sync>(rt: &R, alloc: Global) -> Result<bool, Fault> {
+    let (found, there) = both(rt, alloc, ["cod", "pike", "perch"])?;
+    Ok(found == [Some(3), Some(4), None] && there == [true; 4])
 }

@@ -1,9 +1,8 @@
 //! Four threads ask one cache for the squares of the same numbers. Who finds one there takes it, and who does not keeps it there for the others; what is long past is let go.
+//! Beside that, what two threads store at texts is found by lent ones, and each value that they store again and again is dropped once.
 #![tactic(auto)]
 
-#[cfg(test)]
 mod counting;
-#[cfg(test)]
 mod forms;
 
 use papaya_map::{Fault, HashMap, IdSource, Session};
@@ -88,6 +87,9 @@ fn share<R: Threads + Wait + Clock + Sync>(rt: &R, alloc: Global) -> Result<(u64
 fn main(rt: HostRuntime) -> io::Result<()> {
     let (right, met) = share(&rt, rt.alloc())?;
     println!(rt; "{right} squares were right")?;
-    let met = if met { "yes" } else { "no" };
-    println!(rt; "each thread has met what another one had left: {met}")
+    println!(rt; "each thread has met what another one had left: {met}")?;
+    let found = forms::are_found(&rt, rt.alloc())?;
+    println!(rt; "what was stored at texts is found by lent ones: {found}")?;
+    let once = counting::are_dropped_once(&rt, rt.alloc())?;
+    println!(rt; "each value that was stored is dropped once: {once}")
 }

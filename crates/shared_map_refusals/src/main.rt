@@ -54,7 +54,7 @@ fn stores<R: Wait>(
     value: u64,
 ) -> bool {
     let same = match session.insert(rt, key, value) {
-        Ok(replaced) => replaced == before.is_some(),
+        Ok(old) => old.is_some() == before.is_some(),
         Err(back) => {
             let came = matches!(back.fault, Fault::Memory)
                 && back.key == key
@@ -74,11 +74,14 @@ fn tries<R: Wait>(
     there: u64,
 ) -> bool {
     let came = match session.try_insert(rt, key, 0) {
-        Ok(Attempt::Stored) => false,
-        Ok(Attempt::Present(back, value)) => back == key && value == 0,
+        Ok((_, Attempt::Stored)) => false,
+        Ok((_, Attempt::Present(back, value))) => back == key && value == 0,
         Err(back) => {
             let came = matches!(back.fault, Fault::Memory) && back.key == key && back.value == 0;
-            came && matches!(session.try_insert(rt, key, 0), Ok(Attempt::Present(_, _)))
+            came && matches!(
+                session.try_insert(rt, key, 0),
+                Ok((_, Attempt::Present(_, _)))
+            )
         }
     };
     came && session.get(rt, &key).copied() == Some(there)
@@ -87,10 +90,10 @@ fn tries<R: Wait>(
 /// Removes a key, which is there, and tells whether it is gone then. Where that was refused, it was there still.
 fn removes<R: Wait>(rt: &R, session: &mut Session<'_, u64, u64, Hashing>, key: u64) -> bool {
     let removed = match session.remove(rt, &key) {
-        Ok(removed) => removed,
+        Ok(removed) => removed.is_some(),
         Err(fault) => {
             let still = matches!(fault, Fault::Memory) && session.contains_key(rt, &key);
-            still && matches!(session.remove(rt, &key), Ok(true))
+            still && matches!(session.remove(rt, &key), Ok(Some(_)))
         }
     };
     removed && !session.contains_key(rt, &key)
@@ -159,7 +162,7 @@ fn tests<R: Wait>(
     value: u64,
 ) -> bool {
     let removed = match session.remove_if(rt, &key, |_, there| *there == value) {
-        Ok(removed) => removed,
+        Ok(removed) => removed.is_some(),
         Err(fault) => {
             let still = matches!(fault, Fault::Memory) && session.contains_key(rt, &key);
             still
@@ -172,6 +175,19 @@ fn tests<R: Wait>(
     removed && !session.contains_key(rt, &key)
 }
 
+/// Lists the keys, and tells whether as many were listed as there are.
+fn lists<R: Wait>(
+    rt: &R,
+    alloc: Global,
+    session: &mut Session<'_, u64, u64, Hashing>,
+) -> Result<bool, Fault> {
+    let keys = match session.keys(rt, alloc) {
+        Err(Fault::Memory) => session.keys(rt, alloc)?,
+        answer => answer?,
+    };
+    Ok(u64::try_from(keys.len()) == Ok(session.len()))
+}
+
 /// Makes the values of all keys in a map that was built, and removes each; tells whether each time all was as it should be.
 fn asks<R: Wait>(rt: &R, alloc: Global) -> Result<bool, Fault> {
     let map = built(alloc)?;
@@ -181,6 +197,7 @@ fn asks<R: Wait>(rt: &R, alloc: Global) -> Result<bool, Fault> {
         are_there = makes(rt, &mut session, key, key) && are_there;
         session.refresh();
     }
+    are_there = lists(rt, alloc, &mut session)? && are_there;
     for key in 0..KEYS {
         are_there = tests(rt, &mut session, key, key) && are_there;
         session.refresh();

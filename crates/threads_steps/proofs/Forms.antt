@@ -68,7 +68,7 @@ asked_as_it_is (Some key) = refl
 asked_as_it_is None = refl
 
 pub by_key_of_keys : {K V : Type 0} (machine : Machine K V K) → by_key (λ (key : K). key) machine ≡ machine
-by_key_of_keys {K} {V} (kinds.Key c) = ap (λ (asked : Option K). kinds.Key {V = V} (record c { asked = asked })) (asked_as_it_is c.asked)
+by_key_of_keys {K} (kinds.Key c) = ap (λ (asked : Option K). kinds.Key (record c { asked = asked })) (asked_as_it_is c.asked)
 by_key_of_keys (kinds.Reserve r) = refl
 by_key_of_keys (kinds.Sweep r) = refl
 by_key_of_keys (kinds.Count r) = refl
@@ -98,6 +98,15 @@ told_back (tells.Asks pair) = refl
 told_back (tells.Done answer) = refl
 told_back (tells.Refused fault) = refl
 
+abbrev call_of : {K V : Type 0} → KeyCall K V K → Machine K V K → KeyCall K V K
+call_of call (kinds.Key c) = c
+call_of call machine = call
+
+same_end : {K V : Type 0} (call : KeyCall K V K) (told : Called (Node K V)) (end : KeyCall K V K × Called (Node K V)) → (kinds.Key call, of_called told) ≡ as_machine end → (call, told) ≡ end
+same_end {K} {V} call told end is =
+    ap (λ (e : Machine K V K × Progress (Node K V)). (call_of call e.0, told)) is
+    ∙ ap (λ (t : Called (Node K V)). (end.0, t)) (sym (told_back told) ∙ ap (λ (e : Machine K V K × Progress (Node K V)). told_by e.1) is ∙ told_back end.1)
+
 module _ {K V Q M : Type 0} (can : M → Op (Node K V) → Type 0) (took : M → Op (Node K V) → Out (Node K V) → M → Type 0) (shown : M → ℕ → Option (Node K V))
     (same : K → K → Bool) (asks : Q → K → Bool) (stands_for : Q → K) (stands : (asked : Q) (key : K) → asks asked key ≡ same (stands_for asked) key) (hashes : K → ℕ) where
   -- a step of a call by a form may be taken where that of the call by the key may, and is that step
@@ -124,9 +133,7 @@ module _ {K V Q M : Type 0} (can : M → Op (Node K V) → Type 0) (took : M →
       let plan = call_plan same same hashes (key_call stands_for x) in
       let k = steps_as as_machine took shown m n plan (kinds.Key (key_call stands_for y), of_called told)
       (stepped_by m n (kinds.Key x) (kinds.Key y) (of_called told) (steps_as_it as_machine can took shown m n (call_plan asks same hashes x) (y, told) st)) in
-      let call : k.0.0 ≡ key_call stands_for y = let its = k.2 in cc its in
-      let said : k.0.1 ≡ told = sym (told_back k.0.1) ∙ ap (λ (e : Machine K V K × Progress (Node K V)). told_by e.1) (sym k.2) ∙ told_back told in
-      subst (λ (c : KeyCall K V K). Steps took shown m plan n (c, told)) call (subst (λ (t : Called (Node K V)). Steps took shown m plan n (k.0.0, t)) said k.1)
+      subst (λ (e : KeyCall K V K × Called (Node K V)). Steps took shown m plan n e) (sym (same_end (key_call stands_for y) told k.0 k.2)) k.1
 
   -- so straight code may be run where it may for the call by the key, and comes to what that comes to
   pub call_may_run_by : (x : KeyCall K V Q) (m : M) → MayCall same same hashes took shown can (key_call stands_for x) m → MayCall asks same hashes took shown can x m

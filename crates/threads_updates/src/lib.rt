@@ -8,6 +8,6 @@ mod updating;
 
 pub use changing::ComputedPair;
 pub use threads_calls::{
-    Attempt, Fixed, Form, MapPassSeat, OfMaps, SessionBase, Sleepers, memory_for, newcomer,
+    Attempt, Fixed, Form, Found, MapPassSeat, OfMaps, SessionBase, Sleepers, memory_for, newcomer,
 };
 pub use updating::{compute, update, update_or_insert, update_or_insert_with};

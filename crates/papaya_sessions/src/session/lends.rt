@@ -5,7 +5,7 @@ ghost use Rattle.std.specs.Fn.{FnOnceReturns};
 ghost use Rattle.papaya_sessions.specs.Asked.{HasOneWith};
 ghost use Rattle.papaya_sessions.specs.Kept.{KeepsMap};
 ghost use Rattle.papaya_sessions.specs.Lent.{EndsSo};
-ghost use Rattle.papaya_sessions.specs.OneMap.{MapGaveUpPair, MapHasOne, WasRefused};
+ghost use Rattle.papaya_sessions.specs.OneMap.{MapGaveUpPair, MapGaveUpValue, MapHasOne, WasRefused};
 ghost use Rattle.papaya_sessions.specs.Sessions.{HasBeenRefused};
 ghost use Rattle.play_moves.specs.Given.ActsActs.{Remove, TryToInsert, TryToInsertWith};
 ghost use Rattle.threads_updates.specs.Given.StepsAsking.{HasAsked, MakingSays};
@@ -34,6 +34,16 @@ impl<'m, K: Eq + Hash + Drop, V: Drop, S: Hashes<K>> Session<'m, K, V, S> {
             Ok(None) => Ok(None),
             Err(fault) => Err(fault),
         }
+    }
+
+    /// Removes the pair of a key as `remove_entry` does, and lends its value.
+    pub fn remove<R: Wait, Q: Form<K, S>>(&mut self, rt: &R, key: &Q) -> Result<Option<&V>, Fault>
+        ensures* removed { sem 𝓛 (EndsSo K.row V.row S.row K.PartialEq S.Hashes self.entry (λ now. KeepsMap self.old now
+            × IfOk result (λ taken. MapGaveUpValue K.eq S.hash (Q.stands_for key.now) (option_map (λ value. value.now) taken) self.old.base.caller now.base.caller)
+            × IfErr result (λ fault. WasRefused K.eq S.hash (Remove (Q.stands_for key.now)) fault self.old.base.caller now.base.caller))) }
+    {
+        let taken = self.remove_entry(rt, key)?;
+        Ok(taken.map(|pair| pair.1))
     }
 
     /// Stores a pair, if the map has none of an equal key, and lends the value of the one that is there then, its own or the other one, for as long as the session is borrowed,

@@ -1,4 +1,5 @@
 -- One more was stored, or one was refused.
+use Rattle.std.specs.Prelude.{is_some}
 use Rattle.std.proofs.Common.{[], ◌∷◌, ◌++◌, ◌∙◌, refl, sym, subst}
 use Rattle.std.proofs.iter.Next.{Yields-more}
 use Rattle.std.specs.Iterator.{Yields}
@@ -15,7 +16,7 @@ pub loop-key-preserved : goal.loop-key-preserved
 loop-key-preserved g c =
     let put = c.in-Ok.ensures in (
       put_more (PutsPair g.K.PartialEq.eq g.S.Hashes.hash) c.loop-key.yielded (c.in-Some.key, c.in-Some.value) c.args.self.now.base.caller c.loop-key.self.base.caller c.insert.new.self.base.caller
-          c.loop-key.invariant.0 (c.in-Ok.field-0, put.keeps.1, put.stored),
+          c.loop-key.invariant.0 (is_some c.in-Ok.field-0, put.keeps.1, put.stored),
       put.keeps.0 ∙ c.loop-key.invariant.1,
     )
 

@@ -1,16 +1,17 @@
-use Rattle.std.proofs.Common.{sym, subst}
+use Rattle.std.specs.Prelude.{is_some}
+use Rattle.std.proofs.lemmas.Result.{IfErr-weaker, IfOk-weaker}
 use Rattle.papaya_sessions.proofs.OneMap.{came_to_have, not_stored}
-use Rattle.papaya_sessions.specs.OneMap.{MapCameToHave}
 use Rattle.papaya_sessions.proofs.session.Session.insert.Goals as goal
 
-pub returns-in-Ok-clause-stored : goal.returns-in-Ok-clause-stored
-returns-in-Ok-clause-stored g c =
+pub returns-clause-stored : goal.returns-clause-stored
+returns-clause-stored g c =
     let y = c.insert in
-    subst (λ there. MapCameToHave g.K.PartialEq.eq g.S.Hashes.hash c.args.key c.args.value there c.args.self.now.base.caller y.new.self.caller) (sym c.is_some.ensures)
-    (came_to_have g.K.PartialEq.eq g.S.Hashes.hash c.args.self.now y.new.self y.ensures.inside y.ensures.slot y.ensures.map y.ensures.blocks c.args.key c.args.value _ c.in-Ok.ensures.stored)
+    IfOk-weaker y.result _ _
+    (λ old. came_to_have g.K.PartialEq.eq g.S.Hashes.hash c.args.self.now y.new.self y.ensures.inside y.ensures.slot y.ensures.map y.ensures.blocks c.args.key c.args.value (is_some old))
+    y.ensures.stored
 
-pub returns-in-Err-clause-refused : goal.returns-in-Err-clause-refused
-returns-in-Err-clause-refused g c =
+pub returns-clause-refused : goal.returns-clause-refused
+returns-clause-refused g c =
     let y = c.insert in
-    not_stored g.K.PartialEq.eq g.S.Hashes.hash c.args.self.now y.new.self y.ensures.inside y.ensures.slot y.ensures.map y.ensures.blocks c.args.key c.args.value c.in-Err.refused.fault
-    c.in-Err.ensures.refused
+    IfErr-weaker y.result _ _
+    (λ r. not_stored g.K.PartialEq.eq g.S.Hashes.hash c.args.self.now y.new.self y.ensures.inside y.ensures.slot y.ensures.map y.ensures.blocks c.args.key c.args.value r.fault) y.ensures.refused

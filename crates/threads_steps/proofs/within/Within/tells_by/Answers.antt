@@ -1,5 +1,5 @@
 use Rattle.std.specs.Prelude.{Result}
-use Rattle.std.proofs.Common.{◌≡◌, sym, subst, ap, ◌∙◌}
+use Rattle.std.proofs.Common.{sym, subst, ap, ◌∙◌}
 use Rattle.map_measures.specs.ByKey.ByKey.{by_key}
 use Rattle.papaya_raw.specs.declared.machines.asking.MachineReply.{MachineReply}
 use Rattle.papaya_raw.specs.declared.machines.machine.Machine.{Machine}

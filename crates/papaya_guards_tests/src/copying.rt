@@ -1,21 +1,17 @@
 //! Maps that are cloned, and which maps are the same.
-use papaya_map::{Fault, HashMap, IdSource, Session};
+use crate::passing::{Guard, Hashing, Told};
+use papaya_map::{HashMap, IdSource};
 use std::alloc::Global;
-use std::hash::{BuildHasherDefault, DefaultHasher};
 use std::sync::Wait;
 use std::test::Fail;
 
-type Hashing = BuildHasherDefault<DefaultHasher>;
-
-type Own<'m> = Session<'m, u64, u64, Hashing>;
-
 /// Whether each of two maps says that the other one is the same, or is not.
-fn alike<R: Wait>(rt: &R, one: &mut Own<'_>, other: &mut Own<'_>) -> Result<[bool; 2], Fault> {
+fn alike<R: Wait>(rt: &R, one: &mut Guard<'_>, other: &mut Guard<'_>) -> Told<[bool; 2]> {
     Ok([one.same(rt, other)?, other.same(rt, one)?])
 }
 
 /// What is said of a map and its clones: of the empty one, of one of two pairs, once a pair was stored there, and once a value has changed.
-fn copies<R: Wait>(rt: &R, alloc: Global) -> Result<[[bool; 2]; 5], Fault> {
+fn copies<R: Wait>(rt: &R, alloc: Global) -> Told<[[bool; 2]; 5]> {
     let mut ids = IdSource::new();
     let map = HashMap::with_hasher(alloc, &mut ids, Hashing::default())?;
     let none = map.clone(rt, alloc, &mut ids)?;
@@ -29,12 +25,21 @@ fn copies<R: Wait>(rt: &R, alloc: Global) -> Result<[[bool; 2]; 5], Fault> {
     let _ = copy.insert(rt, 100, 1)?;
     let more = alike(rt, &mut own, &mut copy)?;
     let _ = own.insert(rt, 100, 2)?;
-    Ok([at_first, then, cloned, more, alike(rt, &mut own, &mut copy)?])
+    Ok([
+        at_first,
+        then,
+        cloned,
+        more,
+        alike(rt, &mut own, &mut copy)?,
+    ])
 }
 
 #[test]
 fn a_clone_is_the_same_until_one_changes(rt: HostRuntime) -> Result<(), Fail> {
     let said = copies(&rt, rt.alloc())?;
-    assert_eq!(rt; said, [[true; 2], [false; 2], [true; 2], [false; 2], [false; 2]]);
+    assert_eq!(rt;
+        said,
+        [[true; 2], [false; 2], [true; 2], [false; 2], [false; 2]]
+    );
     Ok(())
 }
