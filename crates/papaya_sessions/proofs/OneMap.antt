@@ -38,6 +38,13 @@ removed_one : (answer : Answer) (word : ℕ) → removed_by answer ≡ Some word
 removed_one (said.Key (says.Removed one)) word is = ap (λ (x : ℕ). said.Key (says.Removed x)) (same_some one word is)
 removed_one _ word is = absurd (cc is)
 
+-- what was told is so of what is told on, an answer or a fault
+pub told_then : {A E : Type 0} (told : Result A E) (x y : A) (So : A → Type 0) → told ≡ Ok x → x ≡ y → IfOk told So → So y
+told_then told x y So is same so = subst So same (subst (λ r. IfOk r So) is so)
+
+pub refused_then : {A E : Type 0} (told : Result A E) (fault : E) (So : E → Type 0) → told ≡ Err fault → IfErr told So → So fault
+refused_then told fault So is so = subst (λ r. IfErr r So) is so
+
 -- a session that makes a call, and what it is then
 module _ {K V S : Type 0} {h : hashing.Ghosts K} (same : K → K → Bool) (hash : S → K → ℕ) (x : Session K V S h) (y : SessionBase K V S) (inside : y.caller.seat.view.slot ≡ Inside y.slot Nothing)
     (stands : y.slot ≡ x.base.slot) (stays : y.caller.seat.view.map ≡ x.base.caller.seat.view.map) (memory : y.caller.blocks ≡ x.base.caller.blocks) where

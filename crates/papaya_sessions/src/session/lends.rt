@@ -42,8 +42,11 @@ impl<'m, K: Eq + Hash + Drop, V: Drop, S: Hashes<K>> Session<'m, K, V, S> {
             × IfOk result (λ taken. MapGaveUpValue K.eq S.hash (Q.stands_for key.now) (option_map (λ value. value.now) taken) self.old.base.caller now.base.caller)
             × IfErr result (λ fault. WasRefused K.eq S.hash (Remove (Q.stands_for key.now)) fault self.old.base.caller now.base.caller))) }
     {
-        let taken = self.remove_entry(rt, key)?;
-        Ok(taken.map(|pair| pair.1))
+        match self.remove_entry(rt, key) {
+            Ok(Some((_, value))) => Ok(Some(value)),
+            Ok(None) => Ok(None),
+            Err(fault) => Err(fault),
+        }
     }
 
     /// Stores a pair, if the map has none of an equal key, and lends the value of the one that is there then, its own or the other one, for as long as the session is borrowed,
