@@ -63,7 +63,7 @@ fn tries<R: Wait>(rt: &R, mut session: Own<'_>, value: u64) -> Told<u64> {
 fn removes<R: Wait>(rt: &R, mut session: Own<'_>) -> Told<u64> {
     let mut removed = 0u64;
     for key in 0..KEYS {
-        removed = with(removed, session.remove(rt, &key)?.is_some());
+        removed = with(removed, session.take(rt, &key)?.is_some());
         session.refresh();
     }
     Ok(removed)
