@@ -160,6 +160,17 @@ fn servers_of<R: Wait>(
     Ok(listed(rt, alloc, &set.shared())?)
 }
 
+/// Whether a copy of the servers is the same, until a further one comes to work there.
+fn is_copied<R: Wait>(rt: &R, alloc: Global, ids: &mut IdSource, set: &Set) -> Result<bool, Fault> {
+    let copy = set.clone(rt, alloc, ids)?;
+    let (mut own, mut other) = (set.session()?, copy.session()?);
+    let same = own.same(rt, &mut other)?;
+    other.insert(rt, LAST + 1)?;
+    let more = own.same(rt, &mut other)?;
+    let fewer = other.same(rt, &mut own)?;
+    Ok(same && !more && !fewer)
+}
+
 /// What the readers say, and the routes and servers in the end.
 fn share<R: Threads + Wait + Clock + Sync>(
     rt: &R,
@@ -167,13 +178,18 @@ fn share<R: Threads + Wait + Clock + Sync>(
     ids: &mut IdSource,
     first: &Value,
     at_work: &Value,
-) -> Result<(bool, bool, String, String), JsonFault> {
+) -> Result<([bool; 3], String, String), JsonFault> {
     let map: Map = HashMap::from_value(rt, alloc, ids, Hashing::default(), first)?;
     let set: Set = HashSet::from_value(rt, alloc, ids, Hashing::default(), at_work)?;
     let (routes, servers) = (map.shared(), set.shared());
     let (never_back, met) = serve(rt, &routes, &servers)?;
     let routes = written(rt, alloc, &routes)?;
-    Ok((never_back, met, routes, listed(rt, alloc, &servers)?))
+    let copied = is_copied(rt, alloc, ids, &set)?;
+    Ok((
+        [never_back, met, copied],
+        routes,
+        listed(rt, alloc, &servers)?,
+    ))
 }
 
 /// The value of a text of JSON.
@@ -185,11 +201,13 @@ fn main(rt: HostRuntime) -> io::Result<()> {
     let alloc = rt.alloc();
     let mut ids = IdSource::new();
     let (first, at_work) = (value_of(alloc, FIRST)?, value_of(alloc, SERVERS)?);
-    let (never_back, met, routes, servers) = share(&rt, alloc, &mut ids, &first, &at_work).map_err(
+    let (told, routes, servers) = share(&rt, alloc, &mut ids, &first, &at_work).map_err(
         |_| io::Error::other("these are no routes and servers"),
     )?;
+    let [never_back, met, copied] = told;
     println!(rt; "no request was led back: {never_back}")?;
     println!(rt; "each reader has met the last server: {met}")?;
+    println!(rt; "a copy of the servers is the same until one more comes: {copied}")?;
     println!(rt; "{routes} by {servers}")?;
     for text in MORE_ROUTES {
         match routes_of(&rt, alloc, &mut ids, &value_of(alloc, text)?) {

@@ -7,4 +7,7 @@ mod sets;
 
 pub use forms::{FromJson, ToJson};
 pub use map_forms::{JsonFault, JsonForm, JsonKey, Text};
-pub use papaya::{Fault, HashMap, HashSet, IdSource, Session, SetSession, SharedMap, SharedSet};
+pub use papaya::{
+    Attempt, Fault, HashMap, HashSet, IdSource, Operation, ResizeMode, Session, SetSession,
+    SharedMap, SharedSet,
+};

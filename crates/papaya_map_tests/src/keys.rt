@@ -210,7 +210,7 @@ fn walks<R: Wait>(rt: &R, alloc: Global, map: &mut Own<'_>) -> Told<[bool; 6]> {
     ])
 }
 
-/// All that, of one session.
+/// All that, of one session, which leaves no pair there.
 fn says<R: Wait>(rt: &R, alloc: Global, map: &Map) -> Told<([[bool; 9]; 3], [bool; 6])> {
     let mut session = map.session()?;
     let said = [
@@ -218,7 +218,9 @@ fn says<R: Wait>(rt: &R, alloc: Global, map: &Map) -> Told<([[bool; 9]; 3], [boo
         asks(rt, &mut session)?,
         computes(rt, &mut session)?,
     ];
-    Ok((said, walks(rt, alloc, &mut session)?))
+    let walked = walks(rt, alloc, &mut session)?;
+    session.clear(rt)?;
+    Ok((said, walked))
 }
 
 // Of two calls on a key one comes first, whoever is faster. A body that served one thread after the other would pass, too.

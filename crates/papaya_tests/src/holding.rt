@@ -1,5 +1,9 @@
 //! What a set holds, by one session and by two threads, in each mode; how it is built, and what refuses one, or a guard and a pass of another set.
-use papaya::{Collector, Fault, HashSet, IdSource, ResizeMode, SetSession};
+ghost use Rattle.std.specs.Prelude.{◌≡◌, ◌≢◌};
+
+use papaya::{
+    Collector, Fault, HashSet, IdSource, Pass, RefusedKey, ResizeMode, SetSession, SharedSet,
+};
 use std::alloc::Global;
 use std::hash::{BuildHasherDefault, DefaultHasher, RandomState};
 use std::sync::Wait;
@@ -14,19 +18,12 @@ type Own<'m> = SetSession<'m, u64, Hashing>;
 
 type Told<T> = Result<T, Fault>;
 
-/// Whether a set for which there is no table is refused, and a source of one number still has that then, and gives none any more.
-fn made(alloc: Global, one: RandomState, other: RandomState) -> [bool; 4] {
+/// Whether a source of one number gives that to a set, and none to another one.
+fn made(alloc: Global, one: RandomState, other: RandomState) -> [bool; 2] {
     let mut ids = IdSource::starting_at(u64::MAX - 1);
-    let many = Set::with_capacity_and_hasher(alloc, &mut ids, u64::MAX, Hashing::default());
-    let still = HashSet::<u64>::with_capacity(alloc, &mut ids, 100, one);
-    let none = Set::with_hasher(alloc, &mut ids, Hashing::default());
-    let new = HashSet::<u64>::new(alloc, &mut ids, other);
-    [
-        matches!(many, Err(Fault::Capacity)),
-        still.is_ok(),
-        matches!(none, Err(Fault::CollectorsUsedUp)),
-        matches!(new, Err(Fault::CollectorsUsedUp)),
-    ]
+    let last = HashSet::<u64>::with_capacity(alloc, &mut ids, 100, one);
+    let none = HashSet::<u64>::new(alloc, &mut ids, other);
+    [last.is_ok(), matches!(none, Err(Fault::CollectorsUsedUp))]
 }
 
 /// A set of this mode, which was built with all that can be chosen.
@@ -41,10 +38,9 @@ fn built(alloc: Global, hasher: RandomState, mode: ResizeMode) -> Told<Set> {
 }
 
 /// What a session says of a set that is empty, and of one key.
-fn one<R: Wait>(rt: &R, set: &mut Own<'_>) -> Told<[bool; 10]> {
+fn one<R: Wait>(rt: &R, set: &mut Own<'_>) -> Told<[bool; 8]> {
     Ok([
         set.clear(rt).is_ok(),
-        set.retain(rt, |_| false).is_ok(),
         !set.remove(rt, &42)?,
         set.is_empty(),
         set.insert(rt, 42)?,
@@ -52,7 +48,6 @@ fn one<R: Wait>(rt: &R, set: &mut Own<'_>) -> Told<[bool; 10]> {
         set.contains(rt, &42),
         set.remove(rt, &42)?,
         set.pin().get(rt, &42).is_none(),
-        !set.pin().contains(rt, &42),
     ])
 }
 
@@ -64,7 +59,7 @@ fn sum<R: Wait>(rt: &R, set: &mut Own<'_>) -> Told<u64> {
 }
 
 /// What a session says of a set of three keys, of which it lets one go, and of as many as it has then.
-fn three<R: Wait>(rt: &R, alloc: Global, set: &mut Own<'_>) -> Told<[bool; 12]> {
+fn three<R: Wait>(rt: &R, alloc: Global, set: &mut Own<'_>) -> Told<[bool; 11]> {
     Ok([
         matches!(set.reserve(rt, u64::MAX), Err(Fault::Capacity)),
         set.reserve(rt, 100).is_ok(),
@@ -75,7 +70,6 @@ fn three<R: Wait>(rt: &R, alloc: Global, set: &mut Own<'_>) -> Told<[bool; 12]> 
         set.elements(rt, alloc)?.len() == 3,
         matches!(set.walk(vec![in alloc; 9, 38]?).next(rt), Some(38)),
         set.retain(rt, |key| *key != 16).is_ok(),
-        !set.contains(rt, &16),
         sum(rt, set)? == 80,
         set.clear(rt).is_ok(),
     ])
@@ -108,24 +102,39 @@ fn both<R: Threads + Wait + Sync>(rt: &R, set: &Set, takes: bool) -> Told<u64> {
 }
 
 /// All that, of one set.
-fn says<R: Threads + Wait + Sync>(
-    rt: &R,
-    alloc: Global,
-    set: &Set,
-) -> Told<([bool; 10], [bool; 12], [u64; 3])> {
+fn says<R: Threads + Wait + Sync>(rt: &R, alloc: Global, set: &Set) -> Told<[bool; 3]> {
     let mut session = set.session()?;
     let (one, three) = (one(rt, &mut session)?, three(rt, alloc, &mut session)?);
     let (new, taken) = (both(rt, set, false)?, both(rt, set, true)?);
-    Ok((one, three, [new, taken, set.register()?.enter().len()]))
+    let all = new == u64::MAX && taken == u64::MAX && session.is_empty();
+    Ok([one == [true; 8], three == [true; 11], all])
 }
 
-/// Whether a call was refused what is of another set.
-fn is_foreign<T: Drop>(told: Told<T>) -> bool {
-    matches!(told, Err(Fault::ForeignGuard))
+/// Whether calls on a set refuse a guard and a pass that are of another one.
+fn refuses<R: Wait>(
+    rt: &R,
+    set: &SharedSet<'_, u64, Hashing>,
+    guard: &Own<'_>,
+    other: &mut Own<'_>,
+    pass: &mut Pass<u64, (), Hashing>,
+) -> [bool; 5]
+    requires other { other.old.session.number ≢ set.now.map.number }
+    requires pass { pass.old.number ≢ set.now.map.number }
+    requires number { guard.now.session.number ≡ set.now.map.number }
+    requires memory { guard.now.session.base.caller.blocks.now ≡ set.now.map.blocks.now }
+    requires map { guard.now.session.base.caller.seat.view.map ≡ set.now.map.seat.now.view.map }
+{
+    [
+        matches!(set.get(rt, &1, other, pass), Err(Fault::ForeignGuard)),
+        matches!(set.contains(rt, &1, guard, pass), Err(Fault::ForeignGuard)),
+        matches!(guard.contains_by(rt, &1, pass), Err(Fault::ForeignGuard)),
+        matches!(set.remove(rt, &1, other), Err(Fault::ForeignGuard)),
+        matches!(set.insert(rt, 1, other), Err(RefusedKey { key: 1, .. })),
+    ]
 }
 
-/// Whether calls on a set refuse a guard and a pass of another one, and go with their own.
-fn foreign<R: Wait>(rt: &R, alloc: Global) -> Told<[bool; 10]> {
+/// Whether they do, and go with their own.
+fn foreign<R: Wait>(rt: &R, alloc: Global) -> Told<([bool; 5], [bool; 4])> {
     let mut ids = IdSource::new();
     let own = Set::with_hasher(alloc, &mut ids, Hashing::default())?;
     let other = Set::with_hasher(alloc, &mut ids, Hashing::default())?;
@@ -134,22 +143,14 @@ fn foreign<R: Wait>(rt: &R, alloc: Global) -> Told<[bool; 10]> {
     let mut strange = other.session()?;
     let mut pass = set.pass();
     let mut unknown = strange.pass();
-    let back = match set.insert(rt, 1, &mut strange) {
-        Err(refused) => matches!(refused.fault, Fault::ForeignGuard) && refused.key == 1,
-        Ok(_) => false,
-    };
-    Ok([
-        back,
-        is_foreign(set.remove(rt, &1, &mut strange)),
-        is_foreign(set.contains(rt, &1, &strange, &mut pass)),
-        is_foreign(set.contains(rt, &1, &guard, &mut unknown)),
-        is_foreign(set.get(rt, &1, &guard, &mut unknown)),
-        is_foreign(guard.contains_by(rt, &1, &mut unknown)),
+    let refused = refuses(rt, &set, &guard, &mut strange, &mut unknown);
+    let gone = [
         matches!(set.insert(rt, 1, &mut guard), Ok(true)),
         matches!(set.contains(rt, &1, &guard, &mut pass), Ok(true)),
         matches!(set.get(rt, &1, &guard, &mut pass), Ok(Some(1))),
         matches!(set.remove(rt, &1, &mut guard), Ok(true)),
-    ])
+    ];
+    Ok((refused, gone))
 }
 
 #[test]
@@ -157,12 +158,12 @@ fn a_set_has_what_it_was_left_and_refuses_what_is_of_another_one(
     rt: HostRuntime,
 ) -> Result<(), Fail> {
     let (hasher, other) = (RandomState::new(&rt)?, RandomState::new(&rt)?);
-    assert_eq!(rt; made(rt.alloc(), hasher, other), [true; 4]);
-    assert_eq!(rt; foreign(&rt, rt.alloc())?, [true; 10]);
+    assert_eq!(rt; made(rt.alloc(), hasher, other), [true; 2]);
+    assert_eq!(rt; foreign(&rt, rt.alloc())?, ([true; 5], [true; 4]));
     for mode in [ResizeMode::Incremental(1), ResizeMode::Blocking] {
         let set = built(rt.alloc(), RandomState::new(&rt)?, mode)?;
         let said = says(&rt, rt.alloc(), &set)?;
-        assert_eq!(rt; said, ([true; 10], [true; 12], [u64::MAX, u64::MAX, 0]));
+        assert_eq!(rt; said, [true; 3]);
     }
     Ok(())
 }

@@ -1,8 +1,11 @@
-//! Makes each call on a map that threads share that asks for memory. Where it is refused, nothing has changed, and it is made again, and done then. This program is to be run
-//! once for each request for memory, with that one refused: each time it prints the same.
+//! Makes each call on a map and a set that threads share that asks for memory, also of JSON. Where it is refused, nothing has changed, and it is made again, and done then. This
+//! program is to be run once for each request for memory, with that one refused: each time it prints the same.
 #![tactic(auto)]
 
-use papaya_map::{Attempt, Fault, HashMap, IdSource, ResizeMode, Session};
+use papaya_json::{
+    Attempt, Fault, FromJson, HashMap, HashSet, IdSource, JsonFault, Operation, ResizeMode,
+    Session, SetSession, ToJson,
+};
 use std::alloc::Global;
 use std::hash::{BuildHasherDefault, DefaultHasher};
 use std::io;
@@ -162,7 +165,7 @@ fn tests<R: Wait>(
     value: u64,
 ) -> bool {
     let removed = match session.remove_if(rt, &key, |_, there| *there == value) {
-        Ok(removed) => removed.is_some(),
+        Ok(removed) => removed,
         Err(fault) => {
             let still = matches!(fault, Fault::Memory) && session.contains_key(rt, &key);
             still
@@ -227,8 +230,144 @@ fn sessions<R: Wait>(rt: &R, alloc: Global) -> Result<bool, Fault> {
     Ok(follow(rt, &first, SESSIONS - 1)? && stored)
 }
 
+/// One more than a count.
+fn more(count: &u64) -> u64 {
+    count.wrapping_add(1)
+}
+
+/// A count that is raised, or begins.
+fn raises(pair: Option<(&u64, &u64)>) -> Operation<u64, ()> {
+    match pair {
+        None => Operation::Insert(1),
+        Some((_, count)) => Operation::Insert(more(count)),
+    }
+}
+
+/// How many of these were done.
+fn many(done: [bool; 4]) -> u64 {
+    let mut many = 0u64;
+    for is in done {
+        many = many.wrapping_add(u64::from(is));
+    }
+    many
+}
+
+/// Adds one to the count of a key, by each call that stores what is made of what is there; tells whether it has come to as many as were not refused, which are all but one at least.
+fn counts<R: Wait>(rt: &R, session: &mut Session<'_, u64, u64, Hashing>, key: u64) -> bool {
+    let put = session.update_or_insert(rt, &key, more, &1).is_ok();
+    let with = session.update_or_insert_with(rt, &key, more, || 1).is_ok();
+    let updated = matches!(session.update(rt, &key, more), Ok(true));
+    let computed = session.compute(rt, &key, raises).is_ok();
+    let done = many([put, with, updated, computed]);
+    done >= 3 && session.get(rt, &key).copied() == Some(done)
+}
+
+/// Lets a key settle on a value, twice, and takes its pair out, twice; tells whether it was done each time but once.
+fn settles<R: Wait>(rt: &R, session: &mut Session<'_, u64, u64, Hashing>, key: u64) -> bool {
+    let first = session.get_or_insert(rt, key, 7).is_ok();
+    let again = session.get_or_insert_with(rt, key, || 7).is_ok();
+    let there = session.get(rt, &key).copied() == Some(7);
+    let taken = session.remove_entry(rt, &key).is_ok();
+    let gone = session.remove_entry(rt, &key).is_ok();
+    (first || again) && there && (taken || gone) && !session.contains_key(rt, &key)
+}
+
+/// Makes each call on the whole map twice; tells whether it was done one time at least, and what there is then.
+fn goes_over<R: Wait>(rt: &R, session: &mut Session<'_, u64, u64, Hashing>) -> bool {
+    let (room, more) = (
+        session.reserve(rt, 2_000).is_ok(),
+        session.reserve(rt, 2_000).is_ok(),
+    );
+    let all = [(1, 5), (2, 5)];
+    let (put, again) = (
+        session.extend(rt, all).is_ok(),
+        session.extend(rt, all).is_ok(),
+    );
+    let (shown, twice) = (
+        session.each(rt, |_, _| {}).is_ok(),
+        session.each(rt, |_, _| {}).is_ok(),
+    );
+    let kept = session.retain(rt, |key, _| *key == 1).is_ok();
+    let still = session.retain(rt, |key, _| *key == 1).is_ok();
+    let one = session.len() == 1;
+    let (cleared, gone) = (session.clear(rt).is_ok(), session.clear(rt).is_ok());
+    let done = (room || more) && (put || again) && (shown || twice) && (kept || still);
+    done && one && (cleared || gone) && session.is_empty()
+}
+
+/// Counts each key up, lets each settle, and goes over all then; tells whether each time all was as it should be.
+fn changes<R: Wait>(rt: &R, alloc: Global) -> Result<bool, Fault> {
+    let map = made(alloc)?;
+    let mut session = begun(&map)?;
+    let mut are_there = true;
+    for key in 0..KEYS {
+        let counted = counts(rt, &mut session, key);
+        are_there = settles(rt, &mut session, key.wrapping_add(KEYS)) && counted && are_there;
+        session.refresh();
+    }
+    Ok(goes_over(rt, &mut session) && are_there)
+}
+
+/// Puts a key into a set, which has it not; tells whether it is there then. Where it came back, it was not there.
+fn puts<R: Wait>(rt: &R, session: &mut SetSession<'_, u64, Hashing>, key: u64) -> bool {
+    let new = match session.insert(rt, key) {
+        Ok(new) => new,
+        Err(back) => {
+            let none = matches!(back.fault, Fault::Memory) && !session.contains(rt, &key);
+            none && matches!(session.insert(rt, back.key), Ok(true))
+        }
+    };
+    new && session.contains(rt, &key)
+}
+
+/// Puts all keys into a set.
+fn fills<R: Wait>(rt: &R, set: &HashSet<u64, Hashing>) -> Result<bool, Fault> {
+    let session = match set.session() {
+        Err(Fault::Memory) => set.session(),
+        answer => answer,
+    };
+    let mut session = session?;
+    let mut are_there = true;
+    for key in 0..KEYS {
+        are_there = puts(rt, &mut session, key) && are_there;
+    }
+    Ok(are_there)
+}
+
+/// Writes a map of one pair as JSON, and reads one of that; tells whether the pair is there then.
+fn reads<R: Wait>(rt: &R, alloc: Global) -> Result<bool, JsonFault> {
+    let map = made(alloc)?;
+    let mut session = begun(&map)?;
+    let stored = stores(rt, &mut session, 1, None, 2);
+    let (one, other) = (session.to_value(rt, alloc), session.to_value(rt, alloc));
+    let value = if let Ok(value) = one { value } else { other? };
+    let mut ids = IdSource::new();
+    let one = Map::from_value(rt, alloc, &mut ids, Hashing::default(), &value);
+    let other = Map::from_value(rt, alloc, &mut ids, Hashing::default(), &value);
+    let read = if let Ok(map) = one { map } else { other? };
+    let there = begun(&read)?.get(rt, &1).copied() == Some(2);
+    Ok(stored && there)
+}
+
+/// Makes a set, and puts all keys into it.
+fn elements<R: Wait>(rt: &R, alloc: Global) -> Result<bool, Fault> {
+    let mut ids = IdSource::new();
+    let set = match HashSet::with_hasher(alloc, &mut ids, Hashing::default()) {
+        Err(Fault::Memory) => HashSet::with_hasher(alloc, &mut ids, Hashing::default()),
+        answer => answer,
+    };
+    fills(rt, &set?)
+}
+
 fn main(rt: HostRuntime) -> io::Result<()> {
     println!(rt; "all keys: {}", all(&rt, rt.alloc())?)?;
     println!(rt; "all that is asked for: {}", asks(&rt, rt.alloc())?)?;
-    println!(rt; "all sessions: {}", sessions(&rt, rt.alloc())?)
+    println!(rt; "all sessions: {}", sessions(&rt, rt.alloc())?)?;
+    println!(rt;
+        "all that is made of what is there: {}",
+        changes(&rt, rt.alloc())?
+    )?;
+    println!(rt; "all elements: {}", elements(&rt, rt.alloc())?)?;
+    let read = reads(&rt, rt.alloc()).map_err(|_| io::Error::other("no map was read"))?;
+    println!(rt; "all JSON: {read}")
 }
