@@ -9,7 +9,7 @@ returns-in-Ok-clause-cloned g c =
 
 pub returns-in-Ok-clause-hasher : goal.returns-in-Ok-clause-hasher
 returns-in-Ok-clause-hasher g c =
-    IfOk-weaker c.cloned_with.result _ _ (λ map is. subst (g.S.Clone.is_clone c.args.self.now.hasher) (sym is) c.in_ok-hasher.ensures) c.cloned_with.ensures.hasher
+    IfOk-weaker c.cloned_with.result _ _ (λ map is. subst (g.S.Clone.is_clone c.args.self.now.hasher) (sym is) c.in_ok-hasher.ensures.cases) c.cloned_with.ensures.hasher
 
 pub returns-in-Err-clause-ids : goal.returns-in-Err-clause-ids
 returns-in-Err-clause-ids g c = inl refl
