@@ -1,6 +1,6 @@
 -- The element of a pair that a map's lookup has lent.
-use Rattle.std.specs.Prelude.{Option, Some, None, Result, Ok, IfOk, IfSome, is_none, is_some, not, option_map}
-use Rattle.std.proofs.Common.{◌≡◌, ◌∙◌, ℕ, Bool, refl, subst}
+use Rattle.std.specs.Prelude.{Option, Some, None, Result, Ok, IfOk, IfSome, not, option_map}
+use Rattle.std.proofs.Common.{◌≡◌, ◌∙◌, ℕ, Bool, true, false, ap, refl, subst, sym}
 use Rattle.papaya.specs.OneSet.{SetLentUnder}
 use Rattle.papaya_map.specs.Given.SessionsUnder.{HasGotPairUnder}
 use Rattle.papaya_map.specs.Given.ViewsDeclared.view.View.{View}
@@ -12,10 +12,10 @@ keys : {A K V : Type 0} (now : A → K × V) (answer : Option A) → option_map 
 keys now None = refl
 keys now (Some a) = refl
 
--- there is none where none is told of
-pub none_is : {A : Type 0} (told : Option A) → is_none told ≡ not (is_some told)
-none_is None = refl
-none_is (Some a) = refl
+-- an element is new where it has replaced none
+pub new_where_none : (new replaced : Bool) → replaced ≡ not new → new ≡ not replaced
+new_where_none true replaced is = ap not (sym is)
+new_where_none false replaced is = ap not (sym is)
 
 -- there is one just where there is the other
 pub where_one : {A B K : Type 0} (P : Type 0) (f : A → K) (g : B → K) (some : Option A) (other : Option B) → option_map f some ≡ option_map g other → IfSome other (λ _. P) → IfSome some (λ _. P)

@@ -52,7 +52,7 @@ impl<K: Eq + Hash + Clone + Drop, S: BuildHasher + Clone + Drop> HashSet<K, S> {
         ensures ids { (ids.new ≡ ids.old) ⊎ (ids.new ≡ following ids.old) }
     {
         match self.map.clone(rt, alloc, ids) {
-            Ok(map) => Ok(HashSet::of(map)),
+            Ok(map) => Ok(HashSet { map }),
             Err(fault) => Err(fault),
         }
     }
