@@ -131,11 +131,11 @@ def acts(kind, value, answer):
     if kind == CONTAINS:
         return [(THERE, answer, None)]
     if kind == INSERT:
-        return [(THERE, answer, value)]
+        return [(IS, answer, value)]
     if kind == PUT:
         return [(STORES, 0, value)] if value else []
     if kind == TRY:
-        return [(IS, 0, value)] if answer else [(THERE, 1, None)]
+        return [(IS, 0, value)] if answer == value else [(IS, answer, None)]
     if kind == MAKE:
         if answer == 1:
             raise Wrong("a value was stored that was not made")
@@ -145,10 +145,8 @@ def acts(kind, value, answer):
         return [(IS, answer, value if answer else None)]
     if kind == UPSERT:
         return [(IS, answer, value)]
-    if kind == TAKE:
+    if kind in (TAKE, REMOVE):
         return [(IS, answer, 0)]
-    if kind == REMOVE:
-        return [(THERE, answer, 0)]
     if answer:
         if not value or keeps(value):
             raise Wrong("a pair was removed of which the test said no")
