@@ -48,7 +48,7 @@ fn both<R: Threads + Wait + Sync>(
     let pinned = third.pin().get_key_value(rt, &one).is_some();
     let there = third.contains_key(rt, &one);
     let found = finds(rt, &mut third, texts);
-    let removed = third.remove(rt, &one)?;
+    let removed = third.remove(rt, &one)?.is_some();
     Ok((found, [there, pinned, passed, removed]))
 }
 
