@@ -126,16 +126,10 @@ fn replaces<R: Wait>(rt: &R, map: &mut Own<'_>) -> Told<(Option<u64>, u64)> {
     Ok((replaced, if back { *map.pair(there).1 } else { 2 }))
 }
 
-/// Whether the key is missing, by a pin.
-fn lacks<R: Wait>(rt: &R, map: &Own<'_>) -> bool {
-    let mut pin = map.pin();
-    pin.get_key_value(rt, &42).is_none()
-}
-
 /// Where the key is missing, stored, replaced and removed.
 fn keeps<R: Wait>(rt: &R, map: &mut Own<'_>) -> Told<[bool; 9]> {
     Ok([
-        lacks(rt, map),
+        !map.contains_key(rt, &42),
         map.remove(rt, &42)?.is_none(),
         !map.update(rt, &42, more)?,
         !map.remove_if(rt, &42, |_, _| true)?,
