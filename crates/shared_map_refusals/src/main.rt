@@ -6,6 +6,7 @@ use papaya_json::{
     Attempt, Fault, FromJson, HashMap, HashSet, IdSource, JsonFault, Operation, ResizeMode,
     Session, SetSession, ToJson,
 };
+use serde_json::Value;
 use std::alloc::Global;
 use std::hash::{BuildHasherDefault, DefaultHasher};
 use std::io;
@@ -334,19 +335,42 @@ fn fills<R: Wait>(rt: &R, set: &HashSet<u64, Hashing>) -> Result<bool, Fault> {
     Ok(are_there)
 }
 
+/// A map, as JSON.
+fn written<R: Wait>(
+    rt: &R,
+    alloc: Global,
+    session: &mut Session<'_, u64, u64, Hashing>,
+) -> Result<Value, Fault> {
+    match session.to_value(rt, alloc) {
+        Err(Fault::Memory) => session.to_value(rt, alloc),
+        answer => answer,
+    }
+}
+
+/// The map of a value of JSON.
+fn read<R: Wait>(rt: &R, alloc: Global, value: &Value) -> Result<Map, JsonFault> {
+    let mut ids = IdSource::new();
+    match Map::from_value(rt, alloc, &mut ids, Hashing::default(), value) {
+        Err(JsonFault::Refused(_)) => Map::from_value(
+            rt,
+            alloc,
+            &mut ids,
+            Hashing::default(),
+            value,
+        ),
+        answer => answer,
+    }
+}
+
 /// Writes a map of one pair as JSON, and reads one of that; tells whether the pair is there then.
 fn reads<R: Wait>(rt: &R, alloc: Global) -> Result<bool, JsonFault> {
     let map = made(alloc)?;
     let mut session = begun(&map)?;
     let stored = stores(rt, &mut session, 1, None, 2);
-    let (one, other) = (session.to_value(rt, alloc), session.to_value(rt, alloc));
-    let value = if let Ok(value) = one { value } else { other? };
-    let mut ids = IdSource::new();
-    let one = Map::from_value(rt, alloc, &mut ids, Hashing::default(), &value);
-    let other = Map::from_value(rt, alloc, &mut ids, Hashing::default(), &value);
-    let read = if let Ok(map) = one { map } else { other? };
-    let there = begun(&read)?.get(rt, &1).copied() == Some(2);
-    Ok(stored && there)
+    let value = written(rt, alloc, &mut session)?;
+    let other = read(rt, alloc, &value)?;
+    let mut session = begun(&other)?;
+    Ok(session.get(rt, &1).copied() == Some(2) && stored)
 }
 
 /// Makes a set, and puts all keys into it.
