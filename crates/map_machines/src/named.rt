@@ -1,3 +1,7 @@
 //! What those above name of the crates below.
-pub use map_tables::named::{Advance, At, Fault, Link, Memory, Settled, StepMachine};
-pub use map_tables::{Hashes, Node, Setting, Table, lengths, marks, table_words};
+pub use map_tables::named::{Advance, At, Fault, Link, Memory, Settled, StepMachine, states};
+pub use map_tables::{
+    Aim, Counter, Equivalent, Finding, Hashes, Node, Probe, ResizeMode, Setting, Status, Table,
+    Trial, entries_for, every_place_is_tried, h1, h2, lengths, limit, marks, may_be,
+    places_are_distinct, seen, table_words,
+};

@@ -1,5 +1,5 @@
 -- What is so by the crates below, given on to the crates above: these list this crate in place of those.
-pub use Rattle.map_tables.proofs.Ends as TablesEnds
-pub use Rattle.map_tables.proofs.Lists as TablesLists
-pub use Rattle.map_tables.proofs.Places as TablesPlaces
-pub use Rattle.map_tables.proofs.TableLens as TablesTableLens
+pub use Rattle.map_sweeps.proofs.Given.TablesEnds
+pub use Rattle.map_sweeps.proofs.Given.TablesLists
+pub use Rattle.map_sweeps.proofs.Given.TablesPlaces
+pub use Rattle.map_sweeps.proofs.Given.TablesTableLens

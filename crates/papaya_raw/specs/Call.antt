@@ -5,15 +5,15 @@ use Rattle.map_sweeps.specs.Given.SeizeWordsDeclared.at.At.TheVariants.{Root, Wo
 use Rattle.map_sweeps.specs.Given.SeizeWordsDeclared.fault.Fault.TheVariants.{Memory}
 use Rattle.map_sweeps.specs.Given.SeizeWordsOp.{Out, Load, Add, Exchange, Make, Take, Found, Exchanged, Made, Taken}
 use Rattle.map_sweeps.specs.Given.SeizeWordsPlan.{Plan, Then, Turn, Do, Now, Seeing, plan_as}
-use Rattle.map_tables.specs.Given.SeizeDeclared.advance.Advance.{Advance}
-use Rattle.map_tables.specs.Given.SeizeDeclared.advance.Advance.TheVariants as progress
-use Rattle.map_tables.specs.Given.SeizeDeclared.rows.settle.Settled.{Settled}
-use Rattle.map_tables.specs.Given.SeizeDeclared.rows.settle.Settled.TheVariants as settling
-use Rattle.map_tables.specs.Counts.{count_change}
-use Rattle.map_tables.specs.Nodes.{table_seen}
-use Rattle.map_tables.specs.TablePlaces.{at_word}
-use Rattle.map_tables.specs.Trials.{place_tried}
-use Rattle.map_tables.specs.Finding.{may_name}
+use Rattle.map_sweeps.specs.Given.SeizeDeclared.advance.Advance.{Advance}
+use Rattle.map_sweeps.specs.Given.SeizeDeclared.advance.Advance.TheVariants as progress
+use Rattle.map_sweeps.specs.Given.SeizeDeclared.rows.settle.Settled.{Settled}
+use Rattle.map_sweeps.specs.Given.SeizeDeclared.rows.settle.Settled.TheVariants as settling
+use Rattle.map_sweeps.specs.Given.TablesCounts.{count_change}
+use Rattle.map_sweeps.specs.Given.TablesNodes.{table_seen}
+use Rattle.map_sweeps.specs.Given.TablesTablePlaces.{at_word}
+use Rattle.map_sweeps.specs.Given.TablesTrials.{place_tried}
+use Rattle.map_sweeps.specs.Given.TablesFinding.{may_name}
 use Rattle.map_sweeps.specs.Given.ResizeLookup.{names_pair, lookup_plan}
 use Rattle.map_sweeps.specs.Given.ResizeNewTable.{new_table_plan}
 use Rattle.map_sweeps.specs.Given.ResizeDispose.{dispose_plan}
@@ -21,12 +21,12 @@ use Rattle.map_sweeps.specs.Given.ResizeCopier.{copier_plan}
 use Rattle.papaya_raw.specs.Answers.{ended}
 use Rattle.papaya_raw.specs.CallFills.{asks_at}
 use Rattle.papaya_raw.specs.CallPoints.{word_to, standing, going, over, answered_with, ending, tableless, at_last, told, entering, continued_in, changed, counted}
-use Rattle.map_tables.specs.declared.table_words.TheConstants.{NEXT}
-use Rattle.map_tables.specs.declared.node.Node.{Node}
-use Rattle.map_tables.specs.declared.node.Node.TheVariants as nodes
+use Rattle.map_sweeps.specs.Given.TablesDeclared.table_words.TheConstants.{NEXT}
+use Rattle.map_sweeps.specs.Given.TablesDeclared.node.Node.{Node}
+use Rattle.map_sweeps.specs.Given.TablesDeclared.node.Node.TheVariants as nodes
 use Rattle.map_sweeps.specs.Given.ResizeDeclared.yielding.Yielding.{Yielding}
 use Rattle.map_sweeps.specs.Given.ResizeDeclared.yielding.Yielding.TheVariants as outcome
-use Rattle.map_tables.specs.declared.table.Table.{Table}
+use Rattle.map_sweeps.specs.Given.TablesDeclared.table.Table.{Table}
 use Rattle.map_sweeps.specs.Given.ResizeDeclared.lookup.Lookup.{Lookup}
 use Rattle.map_sweeps.specs.Given.ResizeDeclared.new_table.NewTable.{NewTable}
 use Rattle.map_sweeps.specs.Given.ResizeDeclared.copier.Copier.{Copier}

@@ -2,7 +2,7 @@
 use Rattle.std.specs.Prelude.{ℕ, Some, None, Result, Ok, Err}
 use Rattle.map_sweeps.specs.Given.SeizeWordsWord.{block_in}
 use Rattle.map_sweeps.specs.Given.SeizeWordsDeclared.fault.Fault.TheVariants.{RemoveNothing}
-use Rattle.map_tables.specs.declared.setting.Setting.{Setting}
+use Rattle.map_sweeps.specs.Given.TablesDeclared.setting.Setting.{Setting}
 use Rattle.papaya_raw.specs.CallPoints.{calling, standing, ending, answering, burying, at_gap}
 use Rattle.papaya_raw.specs.Replies.{untold}
 use Rattle.papaya_raw.specs.declared.machines.answer.There.TheVariants as there

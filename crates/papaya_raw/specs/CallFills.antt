@@ -4,10 +4,10 @@ use Rattle.map_sweeps.specs.Given.SeizeWordsWord.{block_in}
 use Rattle.map_sweeps.specs.Given.SeizeWordsDeclared.fault.Fault.TheVariants.{Memory}
 use Rattle.map_sweeps.specs.Given.SeizeWordsOp.{Out, Make, Take, Rewrite, Made, Taken}
 use Rattle.map_sweeps.specs.Given.SeizeWordsPlan.{Plan, Then, Turn, Do, Now}
-use Rattle.map_tables.specs.Nodes.{vacant}
-use Rattle.map_tables.specs.declared.marks.TheConstants.{TOMBSTONE}
-use Rattle.map_tables.specs.declared.node.Node.{Node}
-use Rattle.map_tables.specs.declared.node.Node.TheVariants as nodes
+use Rattle.map_sweeps.specs.Given.TablesNodes.{vacant}
+use Rattle.map_sweeps.specs.Given.TablesDeclared.marks.TheConstants.{TOMBSTONE}
+use Rattle.map_sweeps.specs.Given.TablesDeclared.node.Node.{Node}
+use Rattle.map_sweeps.specs.Given.TablesDeclared.node.Node.TheVariants as nodes
 use Rattle.papaya_raw.specs.CallPoints.{word_to, standing, going}
 use Rattle.papaya_raw.specs.Replies.{value_for, as_own, with_back}
 use Rattle.papaya_raw.specs.declared.machines.answer.End.TheVariants as ends

@@ -1,28 +1,28 @@
 -- A call on one key: how it goes on from one point to another.
 use Rattle.std.specs.Prelude.{ℕ, ◌+◌, ◌*◌, ◌/◌, ◌%◌, ◌^◌, ◌==◌, Bool, true, false, if◌then◌else◌, Option, Some, None}
 use Rattle.map_sweeps.specs.Given.SeizeWordsWord.{link_to, block_in}
-use Rattle.map_tables.specs.Chunks.{is_incremental}
-use Rattle.map_tables.specs.Trials.{first_trial, trial_on, with_met, found_full, next_trial}
-use Rattle.map_tables.specs.Finding.{finding}
+use Rattle.map_sweeps.specs.Given.TablesChunks.{is_incremental}
+use Rattle.map_sweeps.specs.Given.TablesTrials.{first_trial, trial_on, with_met, found_full, next_trial}
+use Rattle.map_sweeps.specs.Given.TablesFinding.{finding}
 use Rattle.map_sweeps.specs.Given.ResizeLookup.{looking}
 use Rattle.papaya_raw.specs.Answers.{ended}
 use Rattle.papaya_raw.specs.Replies.{silent}
 use Rattle.map_sweeps.specs.Given.ResizeNewTable.{first_table, table_after}
 use Rattle.map_sweeps.specs.Given.ResizeDispose.{disposing}
 use Rattle.map_sweeps.specs.Given.ResizeCopierStates.{helping, copying_all}
-use Rattle.map_tables.specs.declared.lengths.TheConstants.{FIRST_LEN}
-use Rattle.map_tables.specs.declared.lengths.Reason.{Reason}
-use Rattle.map_tables.specs.declared.lengths.Reason.TheVariants.{Full}
-use Rattle.map_tables.specs.declared.marks.TheConstants.{TOMBSTONE}
-use Rattle.map_tables.specs.declared.node.Node.{Node}
-use Rattle.map_tables.specs.declared.node.Node.TheVariants as nodes
-use Rattle.map_tables.specs.declared.setting.Setting.{Setting}
-use Rattle.map_tables.specs.declared.table.Table.{Table}
-use Rattle.map_tables.specs.declared.trial.Trial.{Trial}
-use Rattle.map_tables.specs.declared.finding.Aim.{Aim}
-use Rattle.map_tables.specs.declared.finding.Aim.TheVariants.{Changes, Stores}
-use Rattle.map_tables.specs.declared.finding.Finding.{Finding}
-use Rattle.map_tables.specs.declared.finding.Finding.TheVariants as is
+use Rattle.map_sweeps.specs.Given.TablesDeclared.lengths.TheConstants.{FIRST_LEN}
+use Rattle.map_sweeps.specs.Given.TablesDeclared.lengths.Reason.{Reason}
+use Rattle.map_sweeps.specs.Given.TablesDeclared.lengths.Reason.TheVariants.{Full}
+use Rattle.map_sweeps.specs.Given.TablesDeclared.marks.TheConstants.{TOMBSTONE}
+use Rattle.map_sweeps.specs.Given.TablesDeclared.node.Node.{Node}
+use Rattle.map_sweeps.specs.Given.TablesDeclared.node.Node.TheVariants as nodes
+use Rattle.map_sweeps.specs.Given.TablesDeclared.setting.Setting.{Setting}
+use Rattle.map_sweeps.specs.Given.TablesDeclared.table.Table.{Table}
+use Rattle.map_sweeps.specs.Given.TablesDeclared.trial.Trial.{Trial}
+use Rattle.map_sweeps.specs.Given.TablesDeclared.finding.Aim.{Aim}
+use Rattle.map_sweeps.specs.Given.TablesDeclared.finding.Aim.TheVariants.{Changes, Stores}
+use Rattle.map_sweeps.specs.Given.TablesDeclared.finding.Finding.{Finding}
+use Rattle.map_sweeps.specs.Given.TablesDeclared.finding.Finding.TheVariants as is
 use Rattle.papaya_raw.specs.declared.machines.answer.There.{There}
 use Rattle.papaya_raw.specs.declared.machines.answer.There.TheVariants as there
 use Rattle.papaya_raw.specs.declared.machines.answer.Missing.{Missing}

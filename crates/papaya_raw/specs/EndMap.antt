@@ -4,20 +4,20 @@ use Rattle.map_sweeps.specs.Given.SeizeWordsWord.{block_in}
 use Rattle.map_sweeps.specs.Given.SeizeWordsDeclared.at.At.TheVariants.{Root, Used, Entry, Word}
 use Rattle.map_sweeps.specs.Given.SeizeWordsOp.{Out, Load, Store, Take, Found, Taken}
 use Rattle.map_sweeps.specs.Given.SeizeWordsPlan.{Plan, Then, Turn, Do, Now, Seeing}
-use Rattle.map_tables.specs.Given.SeizeDeclared.states.TheConstants as state
-use Rattle.map_tables.specs.Given.SeizeDeclared.rows.settle.Settled.{Settled}
-use Rattle.map_tables.specs.Given.SeizeDeclared.rows.settle.Settled.TheVariants.{Goes, Gave, Done}
-use Rattle.map_tables.specs.declared.setting.Setting.{Setting}
-use Rattle.map_tables.specs.declared.node.Node.{Node}
-use Rattle.map_tables.specs.declared.table_words.TheConstants.{NEXT, DEFERRED, PLACES}
-use Rattle.map_tables.specs.declared.marks.TheConstants.{COPYING}
+use Rattle.map_sweeps.specs.Given.SeizeDeclared.states.TheConstants as state
+use Rattle.map_sweeps.specs.Given.SeizeDeclared.rows.settle.Settled.{Settled}
+use Rattle.map_sweeps.specs.Given.SeizeDeclared.rows.settle.Settled.TheVariants.{Goes, Gave, Done}
+use Rattle.map_sweeps.specs.Given.TablesDeclared.setting.Setting.{Setting}
+use Rattle.map_sweeps.specs.Given.TablesDeclared.node.Node.{Node}
+use Rattle.map_sweeps.specs.Given.TablesDeclared.table_words.TheConstants.{NEXT, DEFERRED, PLACES}
+use Rattle.map_sweeps.specs.Given.TablesDeclared.marks.TheConstants.{COPYING}
 use Rattle.papaya_raw.specs.declared.machines.end_map.EndMap.{EndMap}
 use Rattle.papaya_raw.specs.declared.machines.end_map.Ending.{Ending}
 use Rattle.papaya_raw.specs.declared.machines.end_map.Ending.TheVariants as at
-use Rattle.map_tables.specs.Chunks.{is_incremental}
+use Rattle.map_sweeps.specs.Given.TablesChunks.{is_incremental}
 use Rattle.map_sweeps.specs.Given.ResizeCopierStates.{no_table}
-use Rattle.map_tables.specs.Marks.{has_mark}
-use Rattle.map_tables.specs.Nodes.{table_seen}
+use Rattle.map_sweeps.specs.Given.TablesMarks.{has_mark}
+use Rattle.map_sweeps.specs.Given.TablesNodes.{table_seen}
 
 -- a map that is to end
 abbrev pub ending : Setting → Bool → EndMap

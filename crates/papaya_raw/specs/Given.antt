@@ -10,30 +10,30 @@ pub use Rattle.map_sweeps.specs.Given.ResizeCopierPromotes
 pub use Rattle.map_sweeps.specs.Given.ResizeCopierStates
 pub use Rattle.map_sweeps.specs.Given.ResizeDispose
 pub use Rattle.map_sweeps.specs.Given.ResizeLookup
+pub use Rattle.map_sweeps.specs.Given.SeizeDeclared
+pub use Rattle.map_sweeps.specs.Given.SeizeDefer
+pub use Rattle.map_sweeps.specs.Given.SeizeEnter
+pub use Rattle.map_sweeps.specs.Given.SeizeLaw
+pub use Rattle.map_sweeps.specs.Given.SeizeLeave
+pub use Rattle.map_sweeps.specs.Given.SeizeReclaimAll
+pub use Rattle.map_sweeps.specs.Given.SeizeRegister
+pub use Rattle.map_sweeps.specs.Given.SeizeSequence
+pub use Rattle.map_sweeps.specs.Given.SeizeSettle
+pub use Rattle.map_sweeps.specs.Given.SeizeWaitingSets
+pub use Rattle.map_sweeps.specs.Given.SeizeWorld
+pub use Rattle.map_sweeps.specs.Given.TablesChunks
+pub use Rattle.map_sweeps.specs.Given.TablesCounts
+pub use Rattle.map_sweeps.specs.Given.TablesDeclared
+pub use Rattle.map_sweeps.specs.Given.TablesFinding
+pub use Rattle.map_sweeps.specs.Given.TablesLengths
+pub use Rattle.map_sweeps.specs.Given.TablesMarks
+pub use Rattle.map_sweeps.specs.Given.TablesNodes
+pub use Rattle.map_sweeps.specs.Given.TablesPowers
+pub use Rattle.map_sweeps.specs.Given.TablesProbes
+pub use Rattle.map_sweeps.specs.Given.TablesTablePlaces
+pub use Rattle.map_sweeps.specs.Given.TablesTrials
 pub use Rattle.map_sweeps.specs.Reserves.Reserve as ReservesReserve
 pub use Rattle.map_sweeps.specs.Sweeps.Sweep as SweepsSweep
 pub use Rattle.map_sweeps.specs.Sweeps.SweepPoints as SweepsSweepPoints
 pub use Rattle.map_sweeps.specs.contracts as ReservesContracts
 pub use Rattle.map_sweeps.specs.declared as ReservesDeclared
-pub use Rattle.map_tables.specs.Chunks as TablesChunks
-pub use Rattle.map_tables.specs.Counts as TablesCounts
-pub use Rattle.map_tables.specs.Finding as TablesFinding
-pub use Rattle.map_tables.specs.Given.SeizeDeclared
-pub use Rattle.map_tables.specs.Given.SeizeDefer
-pub use Rattle.map_tables.specs.Given.SeizeEnter
-pub use Rattle.map_tables.specs.Given.SeizeLaw
-pub use Rattle.map_tables.specs.Given.SeizeLeave
-pub use Rattle.map_tables.specs.Given.SeizeReclaimAll
-pub use Rattle.map_tables.specs.Given.SeizeRegister
-pub use Rattle.map_tables.specs.Given.SeizeSequence
-pub use Rattle.map_tables.specs.Given.SeizeSettle
-pub use Rattle.map_tables.specs.Given.SeizeWaitingSets
-pub use Rattle.map_tables.specs.Given.SeizeWorld
-pub use Rattle.map_tables.specs.Lengths as TablesLengths
-pub use Rattle.map_tables.specs.Marks as TablesMarks
-pub use Rattle.map_tables.specs.Nodes as TablesNodes
-pub use Rattle.map_tables.specs.Powers as TablesPowers
-pub use Rattle.map_tables.specs.Probes as TablesProbes
-pub use Rattle.map_tables.specs.TablePlaces as TablesTablePlaces
-pub use Rattle.map_tables.specs.Trials as TablesTrials
-pub use Rattle.map_tables.specs.declared as TablesDeclared

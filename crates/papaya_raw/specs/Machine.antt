@@ -1,8 +1,8 @@
 -- A call of a map under way, whichever it is: what its next step does, and how it goes on by a reply, or as it is asked for a pair.
 use Rattle.std.specs.Prelude.{ℕ, Bool, true, false, Result, Ok, Err}
 use Rattle.map_sweeps.specs.Given.SeizeWordsPlan.{Plan, plan_as}
-use Rattle.map_tables.specs.Given.SeizeDeclared.advance.Advance.{Advance as Counting}
-use Rattle.map_tables.specs.declared.node.Node.{Node}
+use Rattle.map_sweeps.specs.Given.SeizeDeclared.advance.Advance.{Advance as Counting}
+use Rattle.map_sweeps.specs.Given.TablesDeclared.node.Node.{Node}
 use Rattle.map_sweeps.specs.Given.ResizeDeclared.yielding.Yielding.{Yielding}
 use Rattle.map_sweeps.specs.Given.ResizeDeclared.sum.Sum.{Sum}
 use Rattle.map_sweeps.specs.Given.ResizeSum.{sum_plan}

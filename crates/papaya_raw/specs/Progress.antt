@@ -1,7 +1,7 @@
 -- How far a call of a map is, by what the machine of its kind says.
 use Rattle.std.specs.Prelude.{ℕ, Some}
-use Rattle.map_tables.specs.Given.SeizeDeclared.advance.Advance.{Advance as Counting}
-use Rattle.map_tables.specs.Given.SeizeDeclared.advance.Advance.TheVariants as counting
+use Rattle.map_sweeps.specs.Given.SeizeDeclared.advance.Advance.{Advance as Counting}
+use Rattle.map_sweeps.specs.Given.SeizeDeclared.advance.Advance.TheVariants as counting
 use Rattle.map_sweeps.specs.Given.ResizeDeclared.yielding.Yielding.{Yielding}
 use Rattle.map_sweeps.specs.Given.ResizeDeclared.yielding.Yielding.TheVariants as outcome
 use Rattle.map_sweeps.specs.declared.sweep.Swept.{Swept}

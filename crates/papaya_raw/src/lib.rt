@@ -3,8 +3,8 @@
 
 pub mod machines;
 
-pub use map_sweeps::named_sweeps::Yielding;
-pub use map_tables::{
+pub use map_sweeps::named::{
     Counter, Equivalent, Hashes, Node, Probe, ResizeMode, Setting, Status, Table, entries_for,
     every_place_is_tried, h1, h2, lengths, limit, marks, places_are_distinct, table_words,
 };
+pub use map_sweeps::named_sweeps::Yielding;

@@ -12,10 +12,10 @@ pub use asking::{Asking, Gap, MachineReply, Replies, Takes, Told};
 pub use call::{Calling, KeyCall, is_same_key, link_to};
 pub use end_map::{EndMap, Ending};
 pub use machine::Machine;
+pub use map_sweeps::named::{Aim, Finding, Trial, may_be, seen};
 pub use map_sweeps::named_sweeps::{
     Copier, Copying, Dispose, Disposing, Looking, Lookup, Making, NewMap, NewTable, Opening,
     Reserve, Reserving, Sum, Summing,
 };
 pub use map_sweeps::{Purpose, Sweep, Sweeping, Swept};
-pub use map_tables::{Aim, Finding, Trial, may_be, seen};
 pub use progress::{Answer, Progress};

@@ -2,7 +2,7 @@
 ghost use Rattle.std.specs.Prelude.{◌≡◌};
 ghost use Rattle.papaya_raw.specs.Answers.{ended};
 
-use map_tables::named::Fault;
+use map_sweeps::named::Fault;
 
 /// What a call does where the key is in the map.
 #[derive(Clone, Copy)]

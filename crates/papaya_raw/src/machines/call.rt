@@ -6,9 +6,8 @@ ghost use Rattle.papaya_raw.specs.Call.{call_plan};
 
 use crate::machines::answer::{Called, End, KeyAnswer, Missing, There};
 use crate::machines::asking::{Asking, Replies};
+use map_sweeps::named::{Equivalent, Hashes, Memory, Node, Setting, Table, Trial};
 use map_sweeps::named_sweeps::{Copier, Dispose, Lookup, NewTable};
-use map_tables::named::Memory;
-use map_tables::{Equivalent, Hashes, Node, Setting, Table, Trial};
 use std::hash::Hash;
 
 mod asks;

@@ -3,10 +3,9 @@ ghost use Rattle.std.specs.Prelude.{◌≡◌};
 ghost use Rattle.papaya_raw.specs.EndMap.{ending, is_current, next_place, reads, words, takes, nexts, carries, joins, follows, gives, afters, drops, shards, sets, frees};
 ghost use Rattle.map_sweeps.specs.Given.SeizeWordsPlan.{May, Steps};
 
-use map_tables::marks::{COPYING, has};
-use map_tables::named::{At, Link, Memory, Settled, StepMachine, states};
-use map_tables::table_words::{DEFERRED, NEXT, PLACES};
-use map_tables::{Node, Setting, Table};
+use map_sweeps::named::marks::{COPYING, has};
+use map_sweeps::named::table_words::{DEFERRED, NEXT, PLACES};
+use map_sweeps::named::{At, Link, Memory, Node, Setting, Settled, StepMachine, Table, states};
 
 /// Where the end of a map stands.
 #[derive(Clone, Copy)]

@@ -11,10 +11,9 @@ ghost use Rattle.map_sweeps.specs.Given.SeizeWordsPlan.{May, Steps, plan_as};
 use crate::machines::asking::MachineReply;
 use crate::machines::call::KeyCall;
 use crate::machines::progress::Progress;
+use map_sweeps::named::{Equivalent, Hashes, Memory, Node};
 use map_sweeps::named_sweeps::{Reserve, Sum};
 use map_sweeps::{Sweep, Sweeping};
-use map_tables::named::Memory;
-use map_tables::{Equivalent, Hashes, Node};
 use std::hash::Hash;
 
 /// A call of a map under way, whichever it is. It begins as the machine of its kind: `Machine::Key(KeyCall::get(setting, hash, key))`, or
@@ -58,7 +57,7 @@ impl<K, V, Q> Machine<K, V, Q> {
         requires { May M.can M.took M.shown memory.old (plan_as (counted {K = K} {V = V} {Q = Q}) (sum_plan sum.old)) }
         ensures { Steps M.took M.shown memory.old (plan_as (counted {K = K} {V = V} {Q = Q}) (sum_plan sum.old)) memory.new (kinds.Count sum.new, result) }
     {
-        let progress = map_tables::named::StepMachine::step(sum, memory);
+        let progress = map_sweeps::named::StepMachine::step(sum, memory);
         Progress::of_counting(progress)
     }
 

@@ -4,8 +4,8 @@ ghost use Rattle.papaya_raw.specs.Progress.{of_called, of_outcome, of_swept, of_
 
 use crate::machines::answer::{Called, KeyAnswer};
 use map_sweeps::Swept;
+use map_sweeps::named::Fault;
 use map_sweeps::named_sweeps::Yielding;
-use map_tables::named::Fault;
 
 /// What a call of a map answers.
 #[derive(Clone, Copy)]
@@ -90,14 +90,14 @@ impl<T> Progress<T> {
     }
 
     /// How far a counting is.
-    pub(super) fn of_counting(progress: map_tables::named::Advance<u64>) -> Self
+    pub(super) fn of_counting(progress: map_sweeps::named::Advance<u64>) -> Self
         ensures { result ≡ of_counting progress }
     {
         match progress {
-            map_tables::named::Advance::Goes => Progress::Goes,
-            map_tables::named::Advance::Waits => Progress::Waits,
-            map_tables::named::Advance::Done(count) => Progress::Done(Answer::Count(count)),
-            map_tables::named::Advance::Refused(fault) => Progress::Refused(fault),
+            map_sweeps::named::Advance::Goes => Progress::Goes,
+            map_sweeps::named::Advance::Waits => Progress::Waits,
+            map_sweeps::named::Advance::Done(count) => Progress::Done(Answer::Count(count)),
+            map_sweeps::named::Advance::Refused(fault) => Progress::Refused(fault),
         }
     }
 }

@@ -8,11 +8,10 @@ ghost use Rattle.papaya_raw.specs.CallFills.{asks_at};
 use crate::machines::answer::Called;
 use crate::machines::asking::{Asking, Gap, Told};
 use crate::machines::call::{Calling, KeyCall};
+use map_sweeps::named::lengths::{FIRST_LEN, Reason};
+use map_sweeps::named::marks::TOMBSTONE;
+use map_sweeps::named::{Link, Memory, Node, Trial};
 use map_sweeps::named_sweeps::NewTable;
-use map_tables::lengths::{FIRST_LEN, Reason};
-use map_tables::marks::TOMBSTONE;
-use map_tables::named::{Link, Memory};
-use map_tables::{Node, Trial};
 
 impl<K, V, Q> KeyCall<K, V, Q> {
     /// Asks what to do where the key is missing.

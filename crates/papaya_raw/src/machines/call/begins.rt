@@ -8,8 +8,8 @@ ghost use Rattle.papaya_raw.specs.declared.machines.call.Calling.TheVariants.{Ro
 use crate::machines::answer::{Missing, There};
 use crate::machines::asking::{Replies, Takes, Told};
 use crate::machines::call::{Calling, KeyCall};
+use map_sweeps::named::{Node, Probe, Setting, Table, Trial};
 use map_sweeps::named_sweeps::Lookup;
-use map_tables::{Node, Probe, Setting, Table, Trial};
 
 impl<K, V, Q> KeyCall<K, V, Q> {
     /// Looks for a key with this hash.

@@ -7,9 +7,8 @@ ghost use Rattle.papaya_raw.specs.declared.machines.call.Calling.TheVariants as 
 
 use crate::machines::answer::{Called, End};
 use crate::machines::call::{Calling, KeyCall};
+use map_sweeps::named::{Equivalent, Hashes, Memory, Node, Table};
 use map_sweeps::named_sweeps::{Copier, Yielding};
-use map_tables::named::Memory;
-use map_tables::{Equivalent, Hashes, Node, Table};
 use std::hash::Hash;
 
 impl<K: Eq + Hash + Drop, V: Drop, Q: Equivalent<K>> KeyCall<K, V, Q> {

@@ -6,9 +6,8 @@ ghost use Rattle.papaya_raw.specs.CallFills.{putting, fills_with, fills, gives_u
 use crate::machines::answer::{Called, End};
 use crate::machines::call::values::link_to;
 use crate::machines::call::{Calling, KeyCall};
-use map_tables::Node;
-use map_tables::marks::TOMBSTONE;
-use map_tables::named::{Fault, Link, Memory};
+use map_sweeps::named::marks::TOMBSTONE;
+use map_sweeps::named::{Fault, Link, Memory, Node};
 
 impl<K: Drop, V: Drop, Q> KeyCall<K, V, Q> {
     /// Puts the value that it was told into its own block. Where one is there that was not stored, it is taken out first.

@@ -5,7 +5,7 @@ ghost use Rattle.papaya_raw.specs.CallAsks.{with_present, absent_replied, presen
 use crate::machines::answer::{End, KeyAnswer};
 use crate::machines::asking::{Asking, Gap, MachineReply, Takes, Told};
 use crate::machines::call::{Calling, KeyCall};
-use map_tables::named::{Fault, Link};
+use map_sweeps::named::{Fault, Link};
 
 impl<K: Drop, V: Drop, Q> KeyCall<K, V, Q> {
     /// Tells it what it asks for. Its next steps go on from there. It hands back a reply that it does not take: where it asks for

@@ -8,11 +8,10 @@ ghost use Rattle.papaya_raw.specs.declared.machines.call.Calling.TheVariants as 
 use crate::machines::answer::{Called, End, KeyAnswer, Missing};
 use crate::machines::asking::Gap;
 use crate::machines::call::{Calling, KeyCall};
+use map_sweeps::named::lengths::FIRST_LEN;
+use map_sweeps::named::table_words::NEXT;
+use map_sweeps::named::{Advance, At, Equivalent, Link, Memory, Node, StepMachine, Table};
 use map_sweeps::named_sweeps::{Copier, NewTable};
-use map_tables::lengths::FIRST_LEN;
-use map_tables::named::{Advance, At, Link, Memory, StepMachine};
-use map_tables::table_words::NEXT;
-use map_tables::{Equivalent, Node, Table};
 use std::hash::Hash;
 
 impl<K, V, Q> KeyCall<K, V, Q> {

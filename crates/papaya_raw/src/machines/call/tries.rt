@@ -1,7 +1,7 @@
 //! Tries of the key at a table: what a word says, and its exchange.
 ghost use Rattle.std.specs.Prelude.{◌≡◌, true, false};
 ghost use Rattle.map_sweeps.specs.Given.SeizeWordsPlan.{May, MaySee, Steps, Ends};
-ghost use Rattle.map_tables.specs.Trials.{with_met, next_trial};
+ghost use Rattle.map_sweeps.specs.Given.TablesTrials.{with_met, next_trial};
 ghost use Rattle.papaya_raw.specs.CallPoints.{going, at_free, at_pair, having_met, passed, beyond, halted, told, changed, counted, aim_of};
 ghost use Rattle.papaya_raw.specs.Call.{have_one_key, word_read, probes, tries, counts};
 ghost use Rattle.papaya_raw.specs.declared.machines.call.Calling.TheVariants as at;
@@ -9,10 +9,9 @@ ghost use Rattle.papaya_raw.specs.declared.machines.call.Calling.TheVariants as 
 use crate::machines::answer::{Called, KeyAnswer, Missing, There};
 use crate::machines::asking::Gap;
 use crate::machines::call::{Calling, KeyCall};
+use map_sweeps::named::marks::TOMBSTONE;
+use map_sweeps::named::{Aim, Equivalent, Finding, Link, Memory, Node, may_be, seen};
 use map_sweeps::named_sweeps::{Dispose, asks_for, count};
-use map_tables::marks::TOMBSTONE;
-use map_tables::named::{Link, Memory};
-use map_tables::{Aim, Equivalent, Finding, Node, may_be, seen};
 use std::hash::Hash;
 
 /// Returns whether two nodes are pairs of one key.

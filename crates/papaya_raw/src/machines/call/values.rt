@@ -7,9 +7,8 @@ ghost use Rattle.papaya_raw.specs.declared.machines.call.Calling.TheVariants as 
 
 use crate::machines::answer::{Called, End, KeyAnswer};
 use crate::machines::call::{Calling, KeyCall};
+use map_sweeps::named::{Advance, Equivalent, Fault, Link, Memory, Node, Settled, StepMachine, h2};
 use map_sweeps::named_sweeps::{Dispose, Lookup};
-use map_tables::named::{Advance, Fault, Link, Memory, Settled, StepMachine};
-use map_tables::{Equivalent, Node, h2};
 use std::hash::Hash;
 
 /// Returns the word that links to a block of this number, by a hash.

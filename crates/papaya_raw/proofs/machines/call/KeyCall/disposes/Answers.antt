@@ -2,7 +2,7 @@
 use Rattle.std.proofs.Common.{refl, subst, sym}
 use Rattle.map_sweeps.specs.Given.SeizeWordsPlan.{May, Steps}
 use Rattle.map_sweeps.proofs.Given.SeizeWordsPlans.{may_as}
-use Rattle.map_tables.proofs.Given.SeizeStepsInto.{steps_into}
+use Rattle.map_sweeps.proofs.Given.SeizeStepsInto.{steps_into}
 use Rattle.map_sweeps.specs.Given.ResizeDispose.{dispose_plan}
 use Rattle.papaya_raw.specs.declared.machines.call.Calling.{Calling}
 use Rattle.papaya_raw.specs.Call.{plan_at, disposed}

@@ -1,7 +1,7 @@
 -- A step of the making is the call's, with its outcome turned.
 use Rattle.std.proofs.Common.{refl, subst, sym}
 use Rattle.map_sweeps.specs.Given.SeizeWordsPlan.{Steps}
-use Rattle.map_tables.proofs.Given.SeizeStepsInto.{steps_into}
+use Rattle.map_sweeps.proofs.Given.SeizeStepsInto.{steps_into}
 use Rattle.map_sweeps.specs.Given.ResizeNewTable.{new_table_plan}
 use Rattle.papaya_raw.specs.declared.machines.call.Calling.{Calling}
 use Rattle.papaya_raw.specs.Call.{plan_at, first_made}

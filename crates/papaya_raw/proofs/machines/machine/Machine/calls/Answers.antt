@@ -1,6 +1,6 @@
 -- A step of the call on a key is the machine's, with its outcome turned.
 use Rattle.map_sweeps.proofs.Given.SeizeWordsPlans.{may_as}
-use Rattle.map_tables.proofs.Given.SeizeStepsInto.{steps_into}
+use Rattle.map_sweeps.proofs.Given.SeizeStepsInto.{steps_into}
 use Rattle.std.proofs.Common.{ap}
 use Rattle.papaya_raw.specs.declared.machines.machine.Machine.TheVariants as kinds
 use Rattle.papaya_raw.specs.Call.{call_plan}

@@ -1,7 +1,7 @@
 -- A step of the reservation is the machine's, with its outcome turned.
 use Rattle.std.proofs.Common.{ap}
 use Rattle.map_sweeps.proofs.Given.SeizeWordsPlans.{may_as}
-use Rattle.map_tables.proofs.Given.SeizeStepsInto.{steps_into}
+use Rattle.map_sweeps.proofs.Given.SeizeStepsInto.{steps_into}
 use Rattle.papaya_raw.specs.declared.machines.machine.Machine.TheVariants as kinds
 use Rattle.map_sweeps.specs.Reserves.Reserve.{reserve_plan}
 use Rattle.papaya_raw.specs.Machine.{reserved}
