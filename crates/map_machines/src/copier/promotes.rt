@@ -11,8 +11,8 @@ use crate::yielding::Yielding;
 use map_tables::named::{At, Link, Memory};
 use map_tables::table_words::{NEXT, STATUS};
 use map_tables::{Node, Status, Table};
-use seize::rows::{Settle, Settled};
 use seize::StepMachine;
+use seize::rows::{Settle, Settled};
 
 impl Copier {
     /// Makes the next table the root.
