@@ -2,7 +2,6 @@
 //! kinds; what is promised.
 #![tactic(auto)]
 
-mod content;
 mod law;
 mod maps;
 mod view;
