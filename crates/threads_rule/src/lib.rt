@@ -2,6 +2,7 @@
 //! kinds; what is promised.
 #![tactic(auto)]
 
+mod content;
 mod law;
 mod maps;
 mod view;

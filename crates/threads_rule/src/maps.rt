@@ -1,8 +1,8 @@
-//! The rule of maps, also as a content: rows of the collector run beside calls.
+//! The rule of maps.
 use crate::view::View;
 use map_tables::{Hashes, Node};
 use seize_blocks::Rule;
-use seize_views::{Content, Fixed};
+use seize_views::Fixed;
 use std::marker::PhantomData;
 
 /// The memory is that of a scene to which a list of acts has led, and each seat knows what it has under way there. The maps of one memory have hashers of one
@@ -40,19 +40,4 @@ impl<K: Eq, V, S: Hashes<K>> Rule<Node<K, V>> for OfMaps<S> {
     ghost upright = { upright };
 
     ghost leaning_stay = { leaning_stay K.eq S.hash };
-}
-
-impl<K: Eq, V, S: Hashes<K>> Content<Node<K, V>> for OfMaps<S> {
-    ghost use Rattle.std.specs.Prelude.{List, Option};
-    ghost use Rattle.threads_rule.specs.Views.Notes.{beside_of, notes_of};
-    ghost use Rattle.threads_rule.specs.declared.view.Map.{Map};
-    ghost use Rattle.threads_rule.specs.declared.view.BegunCall.{BegunCall};
-
-    ghost Beside = { Option (Map S) × List (BegunCall K V) };
-
-    ghost notes = { notes_of };
-
-    ghost beside = { beside_of };
-
-    fn goes_on() {}
 }

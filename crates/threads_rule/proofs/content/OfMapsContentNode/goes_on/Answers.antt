@@ -1,5 +1,5 @@
 use Rattle.threads_rule.proofs.Views.Contents.{seats_come_in, rows_go_on_in, rows_are_told, rows_turn_in, settlings_begin_in, looked_are_shown_in, leans_beside}
-use Rattle.threads_rule.proofs.maps.OfMapsContentNode.goes_on.Goals as goal
+use Rattle.threads_rule.proofs.content.OfMapsContentNode.goes_on.Goals as goal
 
 pub returns-clause-come : goal.returns-clause-come
 returns-clause-come g c = seats_come_in _ _ _
