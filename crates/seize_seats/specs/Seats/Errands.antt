@@ -175,6 +175,12 @@ abbrev pub RenewsFrom : {T V W V' W' : Type 0} → (V → Type 0) → (State T V
 RenewsFrom {T} {V} {W} {V'} {W'} rests holds after id v =
     (s : State T V W) → holds s → view_of s id ≡ Some v → AreIdle rests s → (w : W') × after record { memory = s.memory; views = []; world = w }
 
+-- with the same seats, where it is known of one what it knew: that one knows this, and each other one what its view goes over into
+abbrev pub RenewsInto : {T V W V' W' : Type 0} → (V → Type 0) → (State T V W → Type 0) → (State T V' W' → Type 0) → ℕ → V → (V → V') → V' → Type 0
+RenewsInto {T} {V} {W} {V'} {W'} rests holds after id v left heir =
+    (s : State T V W) → holds s → view_of s id ≡ Some v → AreIdle rests s
+    → (w : W') × after record { memory = s.memory; views = slice_set (map left s.views) id heir; world = w }
+
 -- an errand keeps nothing of its own
 abbrev pub keeps_away : {V W : Type 0} → (V → V → W → ℕ → Type 0) → V × Away → V × Away → W → ℕ → Type 0
 keeps_away keeps u o w b = keeps u.0 o.0 w b
