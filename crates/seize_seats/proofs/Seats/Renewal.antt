@@ -232,30 +232,30 @@ module _ {M : Type 1} {𝓤 : Ura M} (𝓛 : Logic 𝓤) (R : RattleType) (own :
     Seat γ i = seen cv'.code γ three_quarters i heir
 
     -- they come one after another
-    all_sit : (a γ : ℕ) (d : V') (done : List V') (vs : List V) → ⟦ sitting (a ∷ []) cv' γ d done ⟧ ⊢ H.⇛ ⟦ sitting (a ∷ []) cv' γ d (done ++ map left vs) ⟧
-    all_sit a γ d done [] = qed 𝓛 (‵ (sitting (a ∷ []) cv' γ d done) ∷ []) ∵ updating ! $
-        rewrite ! 0 (λ (us : List V'). ‵ (sitting (a ∷ []) cv' γ d us)) (sym (append-nil done)) refl $ now ! $ done !
-    all_sit a γ d done (v ∷ vs) = qed 𝓛 (‵ (sitting (a ∷ []) cv' γ d done) ∷ []) ∵ updating ! $
-        use1 𝓛 (later (‵ (sitting (a ∷ []) cv' γ d (done ++ left v ∷ [])) ⊛ ‵ (seen cv'.code γ three_quarters (length done) (left v))))
-        (via 𝓤 _ (Sitters.comes 𝓛 (a ∷ []) cv' γ d done (left v) (home v)) (basic 𝓛 _)) $ await ! tt $ split ! $ keep ! (0 ∷ []) $
-        use1 𝓛 (later (‵ (sitting (a ∷ []) cv' γ d ((done ++ left v ∷ []) ++ map left vs)))) (all_sit a γ d (done ++ left v ∷ []) vs) $ await ! tt $
-        rewrite ! 0 (λ (us : List V'). ‵ (sitting (a ∷ []) cv' γ d us)) (append_assoc done (left v ∷ []) (map left vs)) refl $ now ! $ done !
+    all_sit : (a γ : ℕ) (d : V') (come : List V') (vs : List V) → ⟦ sitting (a ∷ []) cv' γ d come ⟧ ⊢ H.⇛ ⟦ sitting (a ∷ []) cv' γ d (come ++ map left vs) ⟧
+    all_sit a γ d come [] = qed 𝓛 (‵ (sitting (a ∷ []) cv' γ d come) ∷ []) ∵ updating ! $
+        rewrite ! 0 (λ (us : List V'). ‵ (sitting (a ∷ []) cv' γ d us)) (sym (append-nil come)) refl $ now ! $ done !
+    all_sit a γ d come (v ∷ vs) = qed 𝓛 (‵ (sitting (a ∷ []) cv' γ d come) ∷ []) ∵ updating ! $
+        use1 𝓛 (later (‵ (sitting (a ∷ []) cv' γ d (come ++ left v ∷ [])) ⊛ ‵ (seen cv'.code γ three_quarters (length come) (left v))))
+        (via 𝓤 _ (Sitters.comes 𝓛 (a ∷ []) cv' γ d come (left v) (home v)) (basic 𝓛 _)) $ await ! tt $ split ! $ keep ! (0 ∷ []) $
+        use1 𝓛 (later (‵ (sitting (a ∷ []) cv' γ d ((come ++ left v ∷ []) ++ map left vs)))) (all_sit a γ d (come ++ left v ∷ []) vs) $ await ! tt $
+        rewrite ! 0 (λ (us : List V'). ‵ (sitting (a ∷ []) cv' γ d us)) (append_assoc come (left v ∷ []) (map left vs)) refl $ now ! $ done !
 
-    heir_sits : (a γ : ℕ) (d : V') (done : List V') (vs : List V) (i : ℕ) (v : V) → slice_get vs i ≡ Some v
-        → ⟦ sitting (a ∷ []) cv' γ d done ⟧ ⊢ H.⇛ (⟦ sitting (a ∷ []) cv' γ d (done ++ slice_set (map left vs) i heir) ⟧ ∗ ⟦ Seat γ (length done + i) ⟧)
-    heir_sits a γ d done [] i v at = absurd (cc at)
-    heir_sits a γ d done (u ∷ us) zero v at =
-        let here : length done ≡ length done + 0 = omega arith in qed 𝓛 (‵ (sitting (a ∷ []) cv' γ d done) ∷ []) ∵ updating ! $
-        use1 𝓛 (later (‵ (sitting (a ∷ []) cv' γ d (done ++ heir ∷ [])) ⊛ ‵ (Seat γ (length done)))) (via 𝓤 _ (Sitters.comes 𝓛 (a ∷ []) cv' γ d done heir comes) (basic 𝓛 _)) $
-        await ! tt $ split ! $ use1 𝓛 (later (‵ (sitting (a ∷ []) cv' γ d ((done ++ heir ∷ []) ++ map left us)))) (all_sit a γ d (done ++ heir ∷ []) us) $ await ! tt $
-        rewrite ! 0 (λ (ws : List V'). ‵ (sitting (a ∷ []) cv' γ d ws)) (append_assoc done (heir ∷ []) (map left us)) refl $
+    heir_sits : (a γ : ℕ) (d : V') (come : List V') (vs : List V) (i : ℕ) (v : V) → slice_get vs i ≡ Some v
+        → ⟦ sitting (a ∷ []) cv' γ d come ⟧ ⊢ H.⇛ (⟦ sitting (a ∷ []) cv' γ d (come ++ slice_set (map left vs) i heir) ⟧ ∗ ⟦ Seat γ (length come + i) ⟧)
+    heir_sits a γ d come [] i v at = absurd (cc at)
+    heir_sits a γ d come (u ∷ us) zero v at =
+        let here : length come ≡ length come + 0 = omega arith in qed 𝓛 (‵ (sitting (a ∷ []) cv' γ d come) ∷ []) ∵ updating ! $
+        use1 𝓛 (later (‵ (sitting (a ∷ []) cv' γ d (come ++ heir ∷ [])) ⊛ ‵ (Seat γ (length come)))) (via 𝓤 _ (Sitters.comes 𝓛 (a ∷ []) cv' γ d come heir comes) (basic 𝓛 _)) $
+        await ! tt $ split ! $ use1 𝓛 (later (‵ (sitting (a ∷ []) cv' γ d ((come ++ heir ∷ []) ++ map left us)))) (all_sit a γ d (come ++ heir ∷ []) us) $ await ! tt $
+        rewrite ! 0 (λ (ws : List V'). ‵ (sitting (a ∷ []) cv' γ d ws)) (append_assoc come (heir ∷ []) (map left us)) refl $
         rewrite ! 1 (λ (k : ℕ). ‵ (Seat γ k)) here refl $ now ! $ done !
-    heir_sits a γ d done (u ∷ us) (suc i) v at = let rest : List V' = slice_set (map left us) i heir in let more : List V' = done ++ left u ∷ [] in
-        let there : length more + i ≡ length done + suc i = omega (arith, length-append done (left u ∷ [])) in qed 𝓛 (‵ (sitting (a ∷ []) cv' γ d done) ∷ []) ∵ updating ! $
-        use1 𝓛 (later (‵ (sitting (a ∷ []) cv' γ d more) ⊛ ‵ (seen cv'.code γ three_quarters (length done) (left u))))
-        (via 𝓤 _ (Sitters.comes 𝓛 (a ∷ []) cv' γ d done (left u) (home u)) (basic 𝓛 _)) $ await ! tt $ split ! $ keep ! (0 ∷ []) $
+    heir_sits a γ d come (u ∷ us) (suc i) v at = let rest : List V' = slice_set (map left us) i heir in let more : List V' = come ++ left u ∷ [] in
+        let there : length more + i ≡ length come + suc i = omega (arith, length-append come (left u ∷ [])) in qed 𝓛 (‵ (sitting (a ∷ []) cv' γ d come) ∷ []) ∵ updating ! $
+        use1 𝓛 (later (‵ (sitting (a ∷ []) cv' γ d more) ⊛ ‵ (seen cv'.code γ three_quarters (length come) (left u))))
+        (via 𝓤 _ (Sitters.comes 𝓛 (a ∷ []) cv' γ d come (left u) (home u)) (basic 𝓛 _)) $ await ! tt $ split ! $ keep ! (0 ∷ []) $
         use1 𝓛 (later (‵ (sitting (a ∷ []) cv' γ d (more ++ rest)) ⊛ ‵ (Seat γ (length more + i)))) (heir_sits a γ d more us i v at) $ await ! tt $ split ! $
-        rewrite ! 0 (λ (ws : List V'). ‵ (sitting (a ∷ []) cv' γ d ws)) (append_assoc done (left u ∷ []) rest) refl $
+        rewrite ! 0 (λ (ws : List V'). ‵ (sitting (a ∷ []) cv' γ d ws)) (append_assoc come (left u ∷ []) rest) refl $
         rewrite ! 1 (λ (k : ℕ). ‵ (Seat γ k)) there refl $ now ! $ done !
 
     pub sits_again : (v : V) (a : ℕ) (d : V') (vs : List V) → slice_get vs id ≡ Some v

@@ -1,6 +1,6 @@
 -- Errands. A seat that is on an errand has left a part of the token of the memory's lifetime, so as long as it is nobody has the memory to himself; a seat that is on
 -- none rests. Rules speak of views alone, and know of no errands.
-use Rattle.std.specs.Prelude.{◌≡◌, ◌⊎◌, ℕ, List, [], ◌∷◌, Option, Some, None, map, slice_get}
+use Rattle.std.specs.Prelude.{◌≡◌, ◌⊎◌, ℕ, List, [], ◌∷◌, Option, Some, None, map, slice_get, slice_set}
 use base.Stored.{Gv, Coded, coded×, coded_ℕ, coded_list, coded_via}
 use base.SetCodes.{coded_share}
 use Rattle.std.specs.Coded.{coded_option}
