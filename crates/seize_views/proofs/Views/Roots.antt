@@ -143,23 +143,8 @@ module _ {T : Type 0} (defers : T → Option ℕ) (fixed : Fixed) (s : State T (
   pub looks : (m : Mem T) (has : Has T) → m ≡ s.memory → IsInHand defers w t has → had_in has ≡ had_in had → (so : SlotView T → Type 0) → so (place has)
       → Leads defers fixed s m id so
   looks m has same known still so is =
-      users defers fixed s id t h place carries had at m w has (record {
-        since = ([], refl);
-        memory = same ∙ h.memory;
-        row = refl;
-        uses = refl;
-        in_hand = known;
-        hands = λ j c x ne e q. refl;
-        sole = λ j c x ne e q p. ne (h.sole j id c x (place had) e at q (carries.hand had ∙ sym still ∙ p));
-        values = λ c its some some2. refl;
-        links = λ b apart some. (refl, refl);
-        held = λ b c held. held;
-        over = λ a c held. refl;
-        roots = subst (λ (x : Mem T). RootsNameLinked x w.hand) (sym same) h.roots;
-        rooted = ap (λ (x : Mem T). length x.roots) same ∙ h.rooted;
-        chains = λ r is. subst (λ (x : Mem T). Chain defers x w.hand r) (sym same) (h.chains r is);
-        passes = λ j ne was now. ([], refl);
-      }) (λ b. found_on defers fixed s id (place had) h at (had_in has) m (ap (λ (x : Mem T). x.roots) same) b (λ mine. still ∙ sym (carries.hand had) ∙ mine)) so is
+      stands defers fixed s id t (place had) (place has) h at (carries.rests had) (carries.rests has) (carries.stays has had) (carries.short has) m same has known
+      (carries.hand had ∙ sym still) (carries.hand has) (carries.known defers w has known) (carries.own w id has) (carries.bounded defers fixed w id has) so is
 
   -- the block that is taken from a root is in the seat's hand
   cuts : (a old : ℕ) (m : Mem T) (so : SlotView T → Type 0) → so (place (cut_in old)) → Cuts defers fixed s id h.life.began t m old so

@@ -169,7 +169,7 @@ module _ {T : Type 0} (defers : T → Option ℕ) (fixed : Fixed) (s : State T (
       by (world.Making i) f = inl (has (world.Making i) f)
       by (world.InUse r) (inl f) = at_root r f.0 f.1 f.2 (cases_eq r a)
       by (world.InUse r) (inr chain) = inl (inr chain)
-      by (world.Parting i) f = absurd f
+      by (world.Parting i) f = inl (has (world.Parting i) f)
       by (world.Cutting i) f = inl (has (world.Cutting i) f)
       by world.Handed f = inl tt
       by (world.LeftTo i) f = absurd f
