@@ -189,11 +189,8 @@ module _ {T : Type 0} (defers : T → Option ℕ) (fixed : Fixed) (s : State T (
   swaps : (t a : ℕ) (y : T) (made : Option (ℕ × T)) (at_id : view_of s id ≡ Some (Defers t (Takes a y made))) (root word : ℕ) → root < fixed.roots → LinksSo made word
       → (out : Out T) (m : Mem T) → Took s.memory (Swap (Root root) word) out m → Leads defers fixed s m id (told defers (Defers t (Takes a y made)) (Swap (Root root) word) out)
   swaps t a y made at_id root word plain is (Found old) m took =
-      by made at_id is (wrote defers fixed s id v h at_id root word old m (Swap (Root root) word) (Found old) tt took took.0 took.1)
+      by made at_id is (wrote defers fixed s id (Defers t (Takes a y made)) h at_id root word old m (Swap (Root root) word) (Found old) tt took took.0 took.1)
     where
-      abbrev v : SlotView T
-      v = Defers t (Takes a y made)
-
       by : (o : Option (ℕ × T)) (e : view_of s id ≡ Some (Defers t (Takes a y o))) → LinksSo o word → Wrote defers fixed s id root word old m
           → Leads defers fixed s m id (λ u. (x : T) × (u ≡ parted_in t a y x old))
       by None e none it =

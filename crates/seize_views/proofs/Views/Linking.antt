@@ -1,6 +1,6 @@
 -- A block that was made is put at a root, in place of what is there, which goes out.
 use Rattle.std.specs.Prelude.{◌≢◌, ◌<◌, Option, Some, None}
-use Rattle.std.proofs.Common.{◌≡◌, ℕ, Bool, cond, ◌⊎◌, inl, inr, refl, sym, subst, ap, ◌∙◌}
+use Rattle.std.proofs.Common.{◌≡◌, ℕ, Bool, false, cond, ◌⊎◌, inl, inr, refl, sym, subst, ap, ◌∙◌}
 use Rattle.std.proofs.lemmas.Bool.{cases_eq, ne_eqb}
 use Rattle.seize_words.specs.OneMemory.Mem.{Mem}
 use Rattle.seize_words.specs.OneMemory.Word.{block_in}

@@ -62,7 +62,7 @@ not_vacant {T} x t a e v = by x e
     by (Watches s b) f = cc f
     by (Joins block) f = cc f
     by (Under n s b) f = cc f
-    by (Defers s (Takes a d made)) f = let k = so (s, world.Inside 0) (t, a) f in cc (k, v)
+    by (Defers s (Takes b c made)) f = let k = so (s, world.Inside 0) (t, a) f in cc (k, v)
     by (Defers s (Parts b y c d)) f = let k = so (s, world.Inside 0) (t, a) f in cc (k, v)
     by (Defers s (Puts b c)) f = let k = so (s, world.Inside 1) (t, a) f in cc (k, v)
     by (Busy None) f = cc f

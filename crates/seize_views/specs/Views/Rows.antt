@@ -192,6 +192,29 @@ module _ {T : Type 0} where
   abbrev pub IsCut : World T → ℕ → Type 0
   IsCut w b = (h : ℕ) × (w.hand b ≡ world.Cutting h)
 
+  -- a block that was made is, if there is one
+  abbrev pub IsMadeSo : World T → Option (ℕ × T) → Type 0
+  IsMadeSo w None = Unit {0}
+  IsMadeSo w (Some made) = IsMade w made.0 made.1
+
+  -- the section of this slot holds the block, of this value
+  abbrev pub IsHeldSo : World T → ℕ → ℕ → T → Type 0
+  IsHeldSo w t a y = (holds t a w.log ≡ true) × (value_at w.memory a ≡ Some y)
+
+  -- some seat has taken the block out, of this value
+  abbrev pub IsPartingSo : World T → ℕ → T → Type 0
+  IsPartingSo w b x = ((h : ℕ) × (w.hand b ≡ world.Parting h)) × (value_at w.memory b ≡ Some x)
+
+  abbrev pub IsDeferring : World T → ℕ → Deferral T → Type 0
+  IsDeferring w t (Takes a y made) = IsHeldSo w t a y × IsMadeSo w made
+  IsDeferring w t (Parts a y b x) = IsHeldSo w t a y × IsPartingSo w b x
+  IsDeferring w t (Puts a c) = holds t a w.log ≡ true
+
+  -- the block that it has taken out is its own
+  abbrev pub IsItsOwn : World T → ℕ → SlotView T → Type 0
+  IsItsOwn w j (Defers t (Parts a y b x)) = w.hand b ≡ world.Parting j
+  IsItsOwn w j _ = Unit {0}
+
   -- the block that a settling is to look at is the one that it is about to reclaim, and has this value
   abbrev pub IsLooked : Mem T → Settle → Option (ℕ × T) → Type 0
   IsLooked m c None = Unit {0}
@@ -239,24 +262,6 @@ module _ {T : Type 0} (defers : T → Option ℕ) where
   IsToStand w None = Unit {0}
   IsToStand w (Some (b, x, a)) = IsMade w b x × LinksTo w.memory b a × (defers x ≢ Some LINK)
 
-  -- a block that was made is, if there is one
-  abbrev pub IsMadeSo : World T → Option (ℕ × T) → Type 0
-  IsMadeSo w None = Unit {0}
-  IsMadeSo w (Some made) = IsMade w made.0 made.1
-
-  -- the section of this slot holds the block, of this value
-  abbrev pub IsHeldSo : World T → ℕ → ℕ → T → Type 0
-  IsHeldSo w t a y = (holds t a w.log ≡ true) × (value_at w.memory a ≡ Some y)
-
-  -- some seat has taken the block out, of this value
-  abbrev pub IsPartingSo : World T → ℕ → T → Type 0
-  IsPartingSo w b x = ((h : ℕ) × (w.hand b ≡ world.Parting h)) × (value_at w.memory b ≡ Some x)
-
-  abbrev pub IsDeferring : World T → ℕ → Deferral T → Type 0
-  IsDeferring w t (Takes a y made) = IsHeldSo w t a y × IsMadeSo w made
-  IsDeferring w t (Parts a y b x) = IsHeldSo w t a y × IsPartingSo w b x
-  IsDeferring w t (Puts a c) = holds t a w.log ≡ true
-
   -- nobody is busy, as rows are all there is
   abbrev pub IsKnown : World T → SlotView T → Type 0
   IsKnown w (Owes t b) = IsCut w b
@@ -268,11 +273,6 @@ module _ {T : Type 0} (defers : T → Option ℕ) where
   IsKnown w (Defers t c) = IsDeferring w t c
   IsKnown w (Busy t) = ⊥
   IsKnown w _ = Unit {0}
-
-  -- the block that it has taken out is its own
-  abbrev pub IsItsOwn : World T → ℕ → SlotView T → Type 0
-  IsItsOwn w j (Defers t (Parts a y b x)) = w.hand b ≡ world.Parting j
-  IsItsOwn w j _ = Unit {0}
 
   -- what a seat knows is so
   pub record Fits (w : World T) (j : ℕ) (v : SlotView T) : Type 0 where
