@@ -24,7 +24,7 @@ use Rattle.seize_seats.specs.Seats.State.{State, view_of}
 use Rattle.seize_views.specs.Views.Chains.{all_roots}
 use Rattle.seize_views.specs.Views.Deferring.{IsTaking, HasSeen, LinksSo, TakingsBegin, BlocksAreTakenOut, PartedAreShown, PartedAreCut, PartedAreDeferred, DeferralsGoOn, DeferralsEnd}
 use Rattle.seize_views.specs.Views.Promises.{op_in}
-use Rattle.seize_views.specs.Views.Rows.{Leads, TurnsTo, hand_of, use_of, row_of, had_in, IsFound, IsHeldSo, IsMadeSo, IsPartingSo, Fits, Holds}
+use Rattle.seize_views.specs.Views.Rows.{Leads, TurnsTo, hand_of, use_of, row_of, had_in, IsInSomeHand, IsFound, IsHeldSo, IsMadeSo, IsPartingSo, Fits, Holds}
 use Rattle.seize_views.specs.Views.Told.{HasOutcome, parted_in, told}
 use Rattle.seize_views.specs.declared.view.Deferral.TheVariants.{Takes, Parts, Puts}
 use Rattle.seize_views.specs.declared.view.Fixed.{Fixed}
@@ -264,7 +264,7 @@ module _ {T : Type 0} (defers : T → Option ℕ) (fixed : Fixed) (s : State T (
         let next : SlotView T = Defers t (Puts a c) in
         let inside : IsInside (w.uses t) = inside_so defers w id t (Parts a y b x) parts in
         let happens : Happens defers fixed.batch_size (Begin id (Defer' t b a)) w n =
-        (parts.row, (field, inside, may_cut, (x, parts.known.1.1, none), (y, parts.known.0.1, keeps), parts.known.0.0, not_left fixed s.memory a _ (w.hand a) (h.found a), refl)) in
+        (parts.row, (field, inside, may_cut, (x, parts.known.1.1, none), (y, parts.known.0.1, keeps), parts.known.0.0, not_left fixed s.memory a (IsInSomeHand s h.life.began a) (w.hand a) (h.found a), refl)) in
         let since = since_one defers fixed w n (Begin id (Defer' t b a)) happens in
         let linked : (d e : ℕ) → w.hand d ≡ world.InUse e → n.hand d ≡ world.InUse e = (λ d e is. beside w b d world.Handed (world.InUse e) (not_use d e is) is) in
         let links : LinksStay defers fixed s id n = (λ d apart some. (refl, refl)) in
