@@ -1,5 +1,5 @@
 -- A block is taken out of a root, and put behind another one, or unlinked.
-use Rattle.std.specs.Prelude.{◌≢◌, ◌<◌, ◌==◌, Option, Some, None, IsSome, Ok, Err, if◌then◌else◌}
+use Rattle.std.specs.Prelude.{◌≢◌, ◌<◌, ◌==◌, Option, Some, None, Ok, Err, if◌then◌else◌}
 use Rattle.std.proofs.Common.{◌≡◌, ℕ, [], ◌∷◌, Bool, true, false, ◌⊎◌, inl, inr, refl, sym, subst, ap, ◌∙◌}
 use Rattle.std.proofs.lemmas.Bool.{cases_eq, eq-eqb}
 use Rattle.seize_words.specs.OneMemory.Mem.{Mem, Can, Took, value_at}
@@ -9,7 +9,7 @@ use Rattle.seize_words.specs.OneMemory.Plan.{Plan, Turn, Do, Ends, Steps}
 use Rattle.seize_words.specs.declared.at.At.TheVariants.{Root, Word}
 use Rattle.seize.specs.Defer.{deferring, defer_plan, plan_at}
 use Rattle.seize.specs.Law.{Unlinked, Deferred, holds}
-use Rattle.seize.specs.World.{World, Row, Use, Hand, Happens, Begin, Parts as PartsIt, Unlinks, Defer', Steps', MayCut, IsInside, IsNotLeft, with_at, with_row, with_use, with_hand, with_effect, after_step, defers_on, one_more, one_less, at_start}
+use Rattle.seize.specs.World.{World, Row, Use, Hand, Happens, Begin, Parts as PartsIt, Unlinks, Defer', Steps', MayCut, IsInside, IsNotLeft, with_row, with_use, with_hand, with_effect, after_step, one_more, one_less, at_start}
 use Rattle.seize.specs.World as world
 use Rattle.seize.specs.declared.advance.Advance.{Advance}
 use Rattle.seize.specs.declared.advance.Advance.TheVariants.{Goes, Done}
@@ -24,11 +24,11 @@ use Rattle.seize_seats.specs.Seats.State.{State, view_of}
 use Rattle.seize_views.specs.Views.Chains.{all_roots}
 use Rattle.seize_views.specs.Views.Deferring.{IsTaking, HasSeen, LinksSo, TakingsBegin, BlocksAreTakenOut, PartedAreShown, PartedAreCut, PartedAreDeferred, DeferralsGoOn, DeferralsEnd}
 use Rattle.seize_views.specs.Views.Promises.{op_in}
-use Rattle.seize_views.specs.Views.Rows.{Leads, TurnsTo, hand_of, use_of, row_of, had_in, IsInSomeHand, IsFound, IsHeldSo, IsMadeSo, IsPartingSo, Fits, Holds}
+use Rattle.seize_views.specs.Views.Rows.{Leads, hand_of, use_of, IsInSomeHand, IsFound, Fits, Holds}
 use Rattle.seize_views.specs.Views.Told.{HasOutcome, parted_in, told}
 use Rattle.seize_views.specs.declared.view.Deferral.TheVariants.{Takes, Parts, Puts}
 use Rattle.seize_views.specs.declared.view.Fixed.{Fixed}
-use Rattle.seize_views.specs.declared.view.Has.TheVariants.{Nothing, Made, Seen, Both, Cut, Walks}
+use Rattle.seize_views.specs.declared.view.Has.TheVariants.{Nothing, Made, Seen, Both, Cut}
 use Rattle.seize_views.specs.declared.view.SlotView.{SlotView}
 use Rattle.seize_views.specs.declared.view.SlotView.TheVariants.{Inside, Defers}
 use Rattle.seize_views.proofs.Views.Came.{of_users, reached, since_one, since_then, since_both}
@@ -38,10 +38,10 @@ use Rattle.seize_views.proofs.Views.InWorld.{IsJustSo, may, same_slot}
 use Rattle.seize_views.proofs.Views.Lifted.{has_row}
 use Rattle.seize_views.proofs.Views.Linking.{links}
 use Rattle.seize_views.proofs.Views.Looks.{rest_of}
-use Rattle.seize_views.proofs.Views.Moved.{LinksStay, chains_stay, hand_users, inside_of, inside_so, moved, still_used}
+use Rattle.seize_views.proofs.Views.Moved.{LinksStay, chains_stay, inside_so, moved, still_used}
 use Rattle.seize_views.proofs.Views.Settling.{may_op}
 use Rattle.seize_views.proofs.Views.Steps.{roots_kept, others, alone, step_of, stepped}
-use Rattle.seize_views.proofs.Views.Users.{Users, beside, passes_one, passes_then, users_on, stands}
+use Rattle.seize_views.proofs.Views.Users.{beside, passes_one, passes_then, users_on, stands}
 use Rattle.seize_views.proofs.Views.Written.{Wrote, wrote, root_can, GoesOut, clears, none_found, gone_hands, gone_sole, gone_roots, gone_chains, gone_found}
 use Rattle.seize_words.proofs.General.{same_some, some_is, some_there}
 

@@ -1,5 +1,5 @@
 -- A seat watches the open section of another one's slot: it begins, looks at roots, is shown what it has seen, and ends.
-use Rattle.std.specs.Prelude.{◌≢◌, ◌<◌, Option, Some, None, IsSome, length, map, slice_set, ◌==◌}
+use Rattle.std.specs.Prelude.{◌≢◌, ◌<◌, Option, Some, None, IsSome, map, slice_set, ◌==◌}
 use Rattle.std.proofs.Common.{◌≡◌, ℕ, ◌+◌, ◌-◌, true, [], inl, inr, refl, sym, subst, ap, ◌∙◌, arith}
 use Rattle.std.proofs.lemmas.Bool.{eq-eqb, ne_eqb}
 use Rattle.seize_words.specs.OneMemory.Mem.{Mem, Took, value_at}
@@ -12,8 +12,7 @@ use Rattle.seize.specs.World as world
 use Rattle.seize_acts.proofs.Given.SeizeAloneHistories.NotTaken.{IsHeld, kept_there}
 use Rattle.seize_seats.specs.Seats.State.{State, view_of, Allows}
 use Rattle.seize_seats.specs.Seats.Lendings.{VisibleTo}
-use Rattle.seize_views.specs.Views.Chains.{Chain}
-use Rattle.seize_views.specs.Views.Rows.{Leads, RootsNameLinked, Holds, row_of, use_of, hand_of, IsShort, IsKnown, IsItsOwn, IsBounded}
+use Rattle.seize_views.specs.Views.Rows.{Leads, Holds, row_of, use_of, hand_of, IsShort, IsKnown, IsItsOwn, IsBounded}
 use Rattle.seize_views.specs.Views.Told.{told}
 use Rattle.seize_views.specs.Views.Watched.{one, open_at, is_watching, LeansOn, watchers, watching, known_by}
 use Rattle.seize_views.specs.Views.Notes.{noted, as_known, deed, NotedHolds, NotedKeeps, noted_observed, Begins, Ends, WatchesBegin, WatchesEnd, WatchersSee, WatchedAreShown}
@@ -26,7 +25,6 @@ use Rattle.seize_views.specs.declared.view.Has.TheVariants.{Nothing}
 use Rattle.seize_views.specs.declared.view.Fixed.{Fixed}
 use Rattle.seize_views.specs.Views.Resting.{open_leans}
 use Rattle.seize_views.proofs.Views.Came.{reached}
-use Rattle.seize_views.proofs.Views.Found.{found_on}
 use Rattle.seize_views.proofs.Views.Handing.{Meeting, met}
 use Rattle.seize_views.proofs.Views.Notes.{seen_at, goes, meets}
 use Rattle.seize_views.proofs.Views.Roots.{root_held}

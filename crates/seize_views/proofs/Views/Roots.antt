@@ -1,25 +1,22 @@
 -- A block is put at a root, whatever is there or in place of a word, seen there, marked there, and taken from there.
 use Rattle.std.specs.Prelude.{◌≢◌, ◌<◌, ◌^◌, ◌/◌, ◌==◌, Option, Some, None, Ok, Err, length, bit_or, if◌then◌else◌}
-use Rattle.std.proofs.Common.{◌≡◌, ℕ, List, [], Bool, true, false, cond, ◌⊎◌, inl, inr, refl, sym, subst, ap, ◌∙◌, arith}
-use Rattle.std.proofs.lemmas.Bool.{cases_eq, eq-eqb, ne_eqb}
+use Rattle.std.proofs.Common.{◌≡◌, ℕ, List, [], Bool, true, false, ◌⊎◌, inl, inr, refl, sym, subst, ap, ◌∙◌, arith}
+use Rattle.std.proofs.lemmas.Bool.{eq-eqb}
 use Rattle.std.proofs.lemmas.Nat.{or_shr}
 use Rattle.std.specs.Int.Bits.{or_zero_r}
 use Rattle.seize_words.specs.OneMemory.Mem.{Mem, Took, word_at}
 use Rattle.seize_words.specs.OneMemory.Word.{block_in}
 use Rattle.seize_words.specs.OneMemory.Op.{Out, Load, Swap, Or, Exchange, Found, Stored, Exchanged, Made as OutMade, Taken, Roomed}
 use Rattle.seize_words.specs.declared.at.At.TheVariants.{Root}
-use Rattle.seize.specs.Law.{Effect, Linked, holds, is_over, is_open, reachable, is_somewhere}
-use Rattle.seize.specs.World.{World, Use, Hand, Links, IsInside, with_at, with_hand, with_effect}
+use Rattle.seize.specs.Law.{Effect, holds, is_open, reachable, is_somewhere}
+use Rattle.seize.specs.World.{World, Use, Hand, IsInside}
 use Rattle.seize.specs.World as world
 use Rattle.seize_acts.proofs.Given.SeizeMovesState.Ghost.{Life, IsLinked, emptied, place_of}
 use Rattle.seize_acts.proofs.Given.SeizeRulePoints.Aside.{HandFits}
-use Rattle.seize_acts.proofs.Given.SeizeMovesState.Held.{held_on}
 use Rattle.seize_acts.proofs.Given.SeizeMovesState.Logs.{reached_held}
-use Rattle.seize_acts.proofs.Given.SeizeRuleRows.Others.{with_here, with_other}
 use Rattle.seize_acts.proofs.Given.SeizeRuleRows.Teams.{UseFits}
 use Rattle.seize_acts.proofs.Given.SeizeAloneHistories.Reached.{Reached}
 use Rattle.seize_seats.specs.Seats.State.{State, view_of}
-use Rattle.seize_views.specs.Views.Chains.{Chain}
 use Rattle.seize_views.specs.Views.Rows.{Leads, TurnsTo, had_in, hand_of, IsMade, IsInHand, RootsNameLinked, Holds}
 use Rattle.seize_views.specs.Views.Told.{seen_in, cut_in, made_beside, alone_with, told}
 use Rattle.seize_views.specs.Views.Promises.{MadeAreLinked, MadeAreExchanged, OwnAreLinked, OwnAreExchanged, RootsAreSeen, RootsAreMarked, RootsAreCleared, RootsAreWithdrawn}
@@ -28,14 +25,11 @@ use Rattle.seize_views.specs.declared.view.SlotView.TheVariants.{Outside, Owes, 
 use Rattle.seize_views.specs.declared.view.Has.{Has}
 use Rattle.seize_views.specs.declared.view.Has.TheVariants.{Nothing, Made, Seen, Both, Cut, Walks}
 use Rattle.seize_views.specs.declared.view.Fixed.{Fixed}
-use Rattle.seize_views.proofs.Views.Came.{reached, since_then}
-use Rattle.seize_views.proofs.Views.Chains.{chain_kept, linked_beside, linked_back, not_chain}
-use Rattle.seize_views.proofs.Views.Found.{linked_some}
+use Rattle.seize_views.proofs.Views.Came.{reached}
 use Rattle.seize_views.proofs.Views.Linking.{links}
-use Rattle.seize_views.proofs.Views.Moved.{inside_of, making_not_held}
-use Rattle.seize_views.proofs.Views.Users.{use_making, making_use, same_use, beside, passes_then, Carries, within, alone_carries, users, stands, users_outside, users_owe}
-use Rattle.seize_views.proofs.Views.Written.{Wrote, Cuts, wrote, rooted_still, roots_now, written, links_stay, chains_still, FoundIn, found_but, fresh, root_can, GoesOut, unlinked, clears}
-use Rattle.seize_words.proofs.General.{same_some}
+use Rattle.seize_views.proofs.Views.Moved.{inside_of}
+use Rattle.seize_views.proofs.Views.Users.{Carries, within, alone_carries, users, stands, users_outside, users_owe}
+use Rattle.seize_views.proofs.Views.Written.{Wrote, Cuts, wrote, rooted_still, roots_now, written, links_stay, chains_still, FoundIn, found_but, root_can, GoesOut, unlinked, clears}
 
 -- bits of the tag leave the block of a word as it is
 marked_block : (word bits : ℕ) → bits < 2 ^ 11 → block_in (bit_or word bits) ≡ block_in word

@@ -15,7 +15,7 @@ use Rattle.seize_acts.proofs.Given.SeizeRuleWorld.Values.{own_op_value}
 use Rattle.seize_acts.proofs.Given.SeizeAloneHistories.Reached.{Reached}
 use Rattle.seize_seats.specs.Seats.State.{State, view_of}
 use Rattle.seize_views.specs.Views.Chains.{IsChainRoot, LinksTo, HasLink, Chain}
-use Rattle.seize_views.specs.Views.Rows.{Leads, IsMade, RootsNameLinked, Holds}
+use Rattle.seize_views.specs.Views.Rows.{Leads, IsMade, Holds}
 use Rattle.seize_views.specs.Views.Stacking.{JoiningAreMade, LinksAreWritten, JoiningAreTaken, JoiningArePut, JoiningAreShown}
 use Rattle.seize_views.specs.Views.Told.{told}
 use Rattle.seize_views.specs.declared.view.TheConstants.{LINK}
