@@ -27,6 +27,7 @@ pub mod Written
 mod Linking
 pub mod Roots
 pub mod Handing
+pub mod Handed
 mod Leaned
 mod Watched
 pub mod Notes
