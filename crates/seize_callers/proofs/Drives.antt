@@ -25,7 +25,7 @@ use Rattle.seize_views.specs.declared.view.Began.{Began}
 use Rattle.seize_views.specs.declared.view.Noted.{Noted}
 use Rattle.seize_views.specs.declared.view.Deed.{Deed}
 use Rattle.seize_views.specs.declared.view.SlotView.{SlotView}
-use Rattle.seize_views.specs.declared.view.SlotView.TheVariants.{Rests, Registers, Outside, Owes, Enters, Inside, Settles, Leaves, Left, Frees, Brings, Bears, Watches, Under, Joins, Busy}
+use Rattle.seize_views.specs.declared.view.SlotView.TheVariants.{Rests, Registers, Outside, Owes, Enters, Inside, Settles, Leaves, Left, Frees, Brings, Bears, Watches, Under, Joins, Defers, Busy}
 use Rattle.seize_views.specs.declared.view.Fixed.{Fixed}
 use Rattle.seize_views.proofs.Views.Looks.{once}
 use Rattle.seize_views.proofs.Views.Makes.{IsDo, IsNoRewrite, may_by, was_made}
@@ -139,6 +139,7 @@ module _ {T V W B : Type 0} (holds : Fixed → State T V W → Type 0) (keeps : 
   known_looked (Watches t c) b at is = absurd (cc is)
   known_looked (Under n t c) b at is = absurd (cc is)
   known_looked (Joins block) b at is = absurd (cc is)
+  known_looked (Defers t c) b at is = absurd (cc is)
   known_looked (Busy t) b at is = absurd (cc is)
 
   pub is_looked : (b : ℕ) → IsSome (shown_in (notes v).knows b) → IsShownIn (notes v).knows b

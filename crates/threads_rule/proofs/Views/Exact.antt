@@ -68,6 +68,9 @@ row_on_slot (slot_view.Bears b) t on sh = absurd (cc sh)
 row_on_slot (slot_view.Watches s b) t on sh = absurd (cc sh)
 row_on_slot (slot_view.Under n s b) t on sh = absurd (cc sh)
 row_on_slot (slot_view.Joins block) t on sh = absurd (cc sh)
+row_on_slot (slot_view.Defers s (Puts a c)) t on sh =
+    let is : s ≡ t = omega (arith, on) in (Inside 1, ap (λ (b : ℕ). Some (b, Inside 1)) is)
+row_on_slot (slot_view.Defers s _) t on sh = absurd (cc sh)
 row_on_slot (slot_view.Busy s) t on sh = absurd (cc sh)
 
 same_here : (a : ℕ) (l : List ℕ) → (count a (a ∷ l) ≡ 0) → ⊥
