@@ -128,12 +128,6 @@ module _ {T : Type 0} (defers : T → Option ℕ) (fixed : Fixed) (s : State T (
   abbrev w : World T
   w = s.world
 
-  r : Reached defers fixed.batch_size w
-  r = reached defers fixed w h.came
-
-  abbrev IsFoundIn : Mem T → Option ℕ → ℕ → Hand → Type 0
-  IsFoundIn m o b k = FoundIn defers fixed s id (place had) h at m o b k
-
   -- what is known of blocks changes, and nothing else
   pub looks : (m : Mem T) (has : Has T) → m ≡ s.memory → IsInHand defers w t has → had_in has ≡ had_in had → (so : SlotView T → Type 0) → so (place has)
       → Leads defers fixed s m id so
