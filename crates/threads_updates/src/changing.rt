@@ -11,17 +11,22 @@ use papaya_raw::machines::{Answer, KeyAnswer};
 use seize_words::Fault;
 use std::hash::Hash;
 use std::sync::Wait;
-use threads_calls::SessionBase;
+use threads_calls::{Found, SessionBase};
 
-/// What has become of a key by what was said.
-#[derive(Debug, Drop, PartialEq, Eq)]
+/// What has become of a key by what was said. The pairs that it names are there until the session takes its next step.
+#[derive(Drop)]
 pub enum ComputedPair<T> {
-    /// A pair was stored, where there was none.
-    Inserted,
-    /// The pair was replaced.
-    Updated,
-    /// The pair was removed.
-    Removed,
+    /// This pair was stored, where there was none.
+    Inserted(Found),
+    /// A pair was replaced.
+    Updated {
+        /// The one that was there.
+        old: Found,
+        /// The one that took its place.
+        new: Found,
+    },
+    /// This pair was removed.
+    Removed(Found),
     /// Nothing has changed, as was said with this.
     Aborted(T),
 }
@@ -33,9 +38,12 @@ fn done<E: Drop>(answer: Answer, end: Option<E>) -> Option<ComputedPair<E>>
     ensures left { IfNone result (IsLeft answer) }
 {
     match answer {
-        Answer::Key(KeyAnswer::Stored(_)) => Some(ComputedPair::Inserted),
-        Answer::Key(KeyAnswer::Replaced { .. }) => Some(ComputedPair::Updated),
-        Answer::Key(KeyAnswer::Removed(_)) => Some(ComputedPair::Removed),
+        Answer::Key(KeyAnswer::Stored(word)) => Some(ComputedPair::Inserted(Found { word })),
+        Answer::Key(KeyAnswer::Replaced { old, new }) => Some(ComputedPair::Updated {
+            old: Found { word: old },
+            new: Found { word: new },
+        }),
+        Answer::Key(KeyAnswer::Removed(word)) => Some(ComputedPair::Removed(Found { word })),
         Answer::Key(KeyAnswer::Absent | KeyAnswer::Found(_))
         | Answer::Reserved
         | Answer::Swept
