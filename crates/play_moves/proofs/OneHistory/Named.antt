@@ -99,20 +99,20 @@ module _ {K V : Type 0} (known : Known) where
   module _ (replies : List (Option ℕ × Reply V)) where
     -- one that was replaced,
     given_way : (key : K) (value : V) (old new : ℕ) (o : Outcome V) → HasOutcome known (one_key.Insert key value) replies (progress.Done (said.Key (says.Replaced old new))) o
-        → IsAnsweredBy {Unit {0}} (λ _. answers.Found) old o
+        → IsAnsweredBy {A = Unit {0}} (λ _. answers.Found) old o
     given_way key value old new (Answered a) (inr (p, n, was, names, v, means)) = (tt, p, was, ap Answered (let one : answers.Found p ≡ a = cc means in sym one))
     given_way key value old new (Answered a) (inl so) = absurd so
     given_way key value old new _ comes = absurd comes
 
     -- one of which a test has said yes,
-    taken_if : (key : K) (word : ℕ) (o : Outcome V) → HasOutcome known (one_key.RemoveIf key) replies (progress.Done (said.Key (says.Removed word))) o → IsAnsweredBy {Unit {0}} (λ _. answers.Found) word o
+    taken_if : (key : K) (word : ℕ) (o : Outcome V) → HasOutcome known (one_key.RemoveIf key) replies (progress.Done (said.Key (says.Removed word))) o → IsAnsweredBy {A = Unit {0}} (λ _. answers.Found) word o
     taken_if key word (Answered a) (inr (p, names, means)) = (tt, p, names, ap Answered (removed_so a _ p (means 0)))
     taken_if key word (Answered a) (inl so) = absurd so
     taken_if key word _ comes = absurd comes
 
     -- one that is there where what is made was to be stored,
     put_with : (key : K) (word : ℕ) (it : Said) (o : Outcome V) → HasOutcome known (one_key.TryInsertWith key) replies (progress.Done it) o → pair_there it ≡ Some word
-        → IsAnsweredBy {Bool} (λ stored n. if stored then answers.Stored n else answers.Kept n) word o
+        → IsAnsweredBy {A = Bool} (λ stored n. if stored then answers.Stored n else answers.Kept n) word o
     put_with key word (said.Key (says.Stored new)) (Answered a) (inr (n, names, v, means)) is =
         (true, n, called n word new (same_some new word is) names, ap Answered (given_so a _ (answers.Stored n) v means))
     put_with key word (said.Key (says.Found old)) (Answered a) (inl (n, names, means)) is =
@@ -127,7 +127,7 @@ module _ {K V : Type 0} (known : Known) where
 
     -- and one of which this became
     became_so : (became : Became) (key : K) (word : ℕ) (it : Said) (o : Outcome V) → HasOutcome known (one_key.Compute key) replies (progress.Done it) o → TellsOf became word it
-        → IsAnsweredBy {ℕ} (computed_so became) word o
+        → IsAnsweredBy {A = ℕ} (computed_so became) word o
     became_so CameIn key word (said.Key (says.Stored new)) (Answered a) (inr (n, names, v, means)) is = (0, n, called n word new is names, ap Answered (came_in a _ n v means))
     became_so TookItsPlace key word (said.Key (says.Replaced old new)) (Answered a) (inr (p, n, was, names, v, means)) is =
         (p, n, called n word new is names, ap Answered (took_its_place a _ p n v means))
@@ -150,7 +150,7 @@ module _ {K V S : Type 0} (same : K → K → Bool) (hash : S → K → ℕ) (fi
   module _ (one : OneKey K V) (wanted : Wanted K V) (simple : plain wanted ≡ wanted) (call_is : call_for wanted ≡ On one) (it : Said) (began : run.began ≡ machine_for same hash map t wanted)
       (told : run.told ≡ progress.Done it) (word : ℕ) (stored : K) (value : V) (shown : shown_in v.held (block_in word) ≡ Some (Pair stored value)) where
     named : {A : Type 0} (answer : A → ℕ → Response V)
-        → ((known : Known) (replies : List (Option ℕ × Reply V)) (o : Outcome V) → HasOutcome known one replies (progress.Done it) o → IsAnsweredBy {K} {V} known answer word o)
+        → ((known : Known) (replies : List (Option ℕ × Reply V)) (o : Outcome V) → HasOutcome known one replies (progress.Done it) o → IsAnsweredBy {K = K} {V = V} known answer word o)
         → (So : ℕ → ℕ → List (Entry K V) → Entry K V → Type 0)
         → ((i m : ℕ) (log : List (Entry K V)) (e : Entry K V) (a : A) → WasNamed same i m (On one) (answer a) (stored, value) log e → So i m log e) → ItsCall same hash fixed id v So
     named answer by So so =

@@ -160,7 +160,7 @@ impl<'a, K: Eq + Hash + Drop, V: Drop, S: Hashes<K>> SessionBase<'a, K, V, S> {
             .caller
             .removes_if(rt, self.hasher, setting, hash, key, &test);
         match told_of(ran) {
-            Ok(answer) => Ok(removed(&answer)),
+            Ok(told) => Ok(removed(&told)),
             Err(fault) => Err(fault),
         }
     }

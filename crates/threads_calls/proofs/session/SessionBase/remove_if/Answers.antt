@@ -18,7 +18,7 @@ removes_if-ran-requires-clause-may g c =
 pub returns-in-Ok-clause-removed : goal.returns-in-Ok-clause-removed
 returns-in-Ok-clause-removed g c =
     let call = removing_if {V = g.row.V.Denot} c.setting_in-setting.result c.hash_by-hash.result (g.Q.Equivalent.stands_for c.args.key.now) in (
-      c.in-Ok.answer,
+      c.in-Ok.told,
       answered_by g.K.PartialEq.eq g.S.Hashes.hash (TestSays (MayTest g.F.Fn c.args.test)) {call = call} {made = call} c.args.self.now.caller.seat.view c.removes_if-ran.new.self.seat.view refl c.told_of.ensures c.in-Ok.is
           c.removes_if-ran.ensures.answered,
       c.removed.ensures,
@@ -27,7 +27,7 @@ returns-in-Ok-clause-removed g c =
 pub returns-in-Ok-clause-shown : goal.returns-in-Ok-clause-shown
 returns-in-Ok-clause-shown g c =
     let call = removing_if {V = g.row.V.Denot} c.setting_in-setting.result c.hash_by-hash.result (g.Q.Equivalent.stands_for c.args.key.now) in let w = c.removes_if-ran.new.self.seat.view in
-    removed_there (shown_in w.held) (λ (f : Found). f.word) c.in-Ok.answer
+    removed_there (shown_in w.held) (λ (f : Found). f.word) c.in-Ok.told
     (shows_asked g.K.PartialEq.eq g.S.Hashes.hash (TestSays (MayTest g.F.Fn c.args.test)) {call = call} {made = call} c.args.self.now.caller.seat.view w refl c.told_of.ensures c.in-Ok.is c.removes_if-ran.ensures.answered)
     c.removed.result c.removed.ensures
 
