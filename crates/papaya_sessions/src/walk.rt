@@ -47,18 +47,16 @@ impl<T: Clone + Drop> Listing<T> {
     }
 }
 
-impl<T: Drop> Listing<T> {
-    /// Returns those that are listed, or `Fault::Memory`, where that was refused to one.
-    fn listed(self) -> Result<Vec<T>, Fault>
-        ensures all { IfOk result (λ items. (self.refused ≡ false) × (items.items ≡ self.items.items)) }
-        ensures fault { IfErr result (λ fault. fault ≡ Memory) }
-    {
-        let Listing { items, refused } = self;
-        if refused {
-            Err(Fault::Memory)
-        } else {
-            Ok(items)
-        }
+/// Returns those that are listed, or `Fault::Memory`, where that was refused to one.
+fn listed<T: Drop>(told: Listing<T>) -> Result<Vec<T>, Fault>
+    ensures all { IfOk result (λ items. (told.refused ≡ false) × (items.items ≡ told.items.items)) }
+    ensures fault { IfErr result (λ fault. fault ≡ Memory) }
+{
+    let Listing { items, refused } = told;
+    if refused {
+        Err(Fault::Memory)
+    } else {
+        Ok(items)
     }
 }
 
@@ -102,7 +100,7 @@ impl<'m, K: Eq + Hash + Clone + Drop, V: Drop, S: Hashes<K>> Session<'m, K, V, S
         };
         let (end, told) = self.shows_to(rt, none);
         match end {
-            Ok(()) => told.listed(),
+            Ok(()) => listed(told),
             Err(fault) => Err(fault),
         }
     }
@@ -123,7 +121,7 @@ impl<'m, K: Eq + Hash + Drop, V: Clone + Drop, S: Hashes<K>> Session<'m, K, V, S
         };
         let (end, told) = self.shows_to(rt, none);
         match end {
-            Ok(()) => told.values.listed(),
+            Ok(()) => listed(told.values),
             Err(fault) => Err(fault),
         }
     }
