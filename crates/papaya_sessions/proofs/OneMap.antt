@@ -11,9 +11,9 @@ use Rattle.papaya_sessions.specs.declared.session.Session.{Session}
 use Rattle.play_moves.proofs.OneHistory.Calls.{found_none, found_value, has_inserted, has_looked, has_missed, has_one, has_refused, has_removed, has_removed_pair, has_tried}
 use Rattle.play_moves.proofs.OneHistory.Named.{TellsOf, has_computed_pair, has_one_with, has_removed_if_pair, has_replaced_pair}
 use Rattle.play_moves.proofs.OneHistory.Whole.{has_cleared, has_counted, has_made_room, has_retained, has_walked}
-use Rattle.play_moves.specs.OneHistory.Calls.{Became, CameIn, GaveWay, TookItsPlace, WentOut, HasInserted, HasLooked, HasOne, HasOneWith, HasRemoved as HasGivenUp, HasRemovedIfPair, HasRemovedPair, HasReplacedPair, HasTried as HasLacked}
+use Rattle.play_moves.specs.OneHistory.Calls.{Became, CameIn, GaveWay, TookItsPlace, WentOut, HasInserted, HasLooked, HasOne, HasOneWith, HasRemoved as HasGivenUp, HasRemovedPair, HasTried as HasLacked}
 use Rattle.play_moves.specs.Given.ActsActs.{Compute, ContainsKey, Count, Get, GoOver, Insert, MakeRoom, Remove, RemoveIf, TryToInsert, TryToInsertWith, Wanted}
-use Rattle.play_moves.specs.Given.ErrandsCalling.{is_put, outcome_of, pair_there}
+use Rattle.play_moves.specs.Given.ErrandsCalling.{is_put, outcome_of}
 use Rattle.play_moves.specs.Given.ErrandsLooking.{HasRun, found_of}
 use Rattle.play_moves.specs.Given.RawDeclared.machines.answer.KeyAnswer.TheVariants as says
 use Rattle.play_moves.specs.Given.RawDeclared.machines.progress.Answer.{Answer}

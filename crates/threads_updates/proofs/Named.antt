@@ -1,6 +1,6 @@
 -- The pairs that are named are shown by the seat of the call that has told of them.
 use Rattle.std.specs.Prelude.{Option, Some, None, IfSome, Ok, option_map}
-use Rattle.std.proofs.Common.{◌≡◌, ℕ, Bool, inl, inr, sym, subst}
+use Rattle.std.proofs.Common.{◌≡◌, ℕ, Bool, inl, inr, subst}
 use Rattle.seize_words.proofs.General.{same_some}
 use Rattle.seize_words.specs.declared.operation.Operation.{Operation}
 use Rattle.map_tables.specs.declared.node.Node.{Node}

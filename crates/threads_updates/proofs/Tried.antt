@@ -19,10 +19,8 @@ use Rattle.threads_updates.specs.declared.computing.ComputedOnce.{ComputedOnce}
 module _ {K V S T : Type 0} (same : K → K → Bool) (hash : S → K → ℕ) (Is : K → Type 0) (Gives : Option (K × V) → Operation V T → Type 0) (v : View K V S) where
   -- with what was said last that nothing is to change
   says_aborted : (end : Option T) → SaidLast Gives end → (done : ComputedPair T) → EndsSo end done → SaysAborted Gives done
-  says_aborted end said (computed.Inserted new) is = tt
-  says_aborted end said (computed.Updated old new) is = tt
-  says_aborted end said (computed.Removed old) is = tt
   says_aborted end said (computed.Aborted with_it) is = subst (λ (o : Option T). SaidLast Gives o) is said
+  says_aborted end said _ is = tt
 
   module _ (w : View K V S) (key : K) (is : Is key) (once : ComputedOnce T) (came : Once same hash Gives (Compute key) once v w) where
     has_told : (told : Result Answer Fault) → once.told ≡ told → HasTold same hash Is Gives told v w

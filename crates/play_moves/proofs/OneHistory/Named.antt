@@ -1,6 +1,6 @@
 -- The pair that a call's answer names, by the word that links to it, is the one that was stored under the number with which the call is answered in the history.
 use Rattle.std.specs.Prelude.{◌<◌, ◌^◌, Option, Some, None, if◌then◌else◌}
-use Rattle.std.proofs.Common.{ℕ, Bool, true, false, List, ◌∷◌, inl, inr, refl, sym, subst, ap, ◌∙◌, ◌≡◌}
+use Rattle.std.proofs.Common.{ℕ, Bool, true, false, List, ◌∷◌, inl, inr, refl, sym, subst, ap, ◌≡◌}
 use Rattle.threads_rule.specs.Given.SeizeViewsDeclared.view.Fixed.{Fixed}
 use Rattle.run_schedules.specs.Given.SeizeWordsWord.{block_in}
 use Rattle.run_legal.specs.Given.TablesDeclared.node.Node.{Node}
@@ -19,7 +19,7 @@ use Rattle.threads_rule.specs.declared.view.BegunCall.{BegunCall}
 use Rattle.threads_rule.specs.declared.view.View.{View}
 use Rattle.threads_rule.specs.Errands.Calling.{pair_there}
 use Rattle.threads_rule.specs.Given.ActsActs.{Wanted, Compute, Insert, RemoveIf, TryToInsertWith}
-use Rattle.run_schedules.specs.Schedules.Sequential.{Meaning, Answers, Leaves, Puts, Takes, computes, computes_none, puts_reply, removes_if}
+use Rattle.run_schedules.specs.Schedules.Sequential.{Answers, Puts, Takes, computes, computes_none, puts_reply, removes_if}
 use Rattle.run_schedules.specs.declared.call.Response.{Response}
 use Rattle.run_schedules.specs.declared.call.Response.TheVariants as answers
 use Rattle.run_schedules.specs.declared.call.Call.{Call}
