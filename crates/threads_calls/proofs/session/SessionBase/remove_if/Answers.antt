@@ -4,7 +4,7 @@ use Rattle.threads_callers.specs.Given.StepsAsking.{MayTest, TestSays}
 use Rattle.threads_callers.specs.Given.ViewsLooks.{shown_in}
 use Rattle.threads_callers.specs.declared.answers.Found.{Found}
 use Rattle.threads_calls.proofs.Asks.{answered_by, may_test, shows_asked, testing}
-use Rattle.threads_calls.proofs.Named.{removed_there}
+use Rattle.threads_callers.proofs.Named.{removed_there}
 use Rattle.threads_calls.proofs.session.SessionBase.remove_if.Goals as goal
 
 pub removes_if-ran-requires-clause-may : goal.removes_if-ran-requires-clause-may

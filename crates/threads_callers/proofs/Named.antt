@@ -1,4 +1,4 @@
--- The pairs that the answers of a session's calls name: whether there is one, and that it is shown.
+-- The pairs that the answers of calls on one key name: whether there is one, and that it is shown.
 use Rattle.std.specs.Prelude.{Option, Some, None, IfSome, Ok, is_some, option_map}
 use Rattle.std.proofs.Common.{◌≡◌, ℕ, inl, inr, refl, sym, ap, ◌∙◌}
 use Rattle.seize_words.proofs.General.{same_some}
@@ -6,10 +6,10 @@ use Rattle.map_tables.specs.declared.node.Node.{Node}
 use Rattle.papaya_raw.specs.declared.machines.answer.KeyAnswer.TheVariants as answers
 use Rattle.papaya_raw.specs.declared.machines.progress.Answer.{Answer}
 use Rattle.papaya_raw.specs.declared.machines.progress.Answer.TheVariants as said
-use Rattle.threads_callers.specs.Given.CallKindsKinds.{PairIsVisible}
-use Rattle.threads_callers.specs.Given.CallKindsShows.{AnsweredAreVisible}
-use Rattle.threads_callers.specs.Given.ErrandsCalling.{outcome_of, pair_there}
-use Rattle.threads_calls.specs.Answers.{is_removed, is_replaced, removed_by, replaced_by}
+use Rattle.threads_errands.specs.Given.CallKindsKinds.{PairIsVisible}
+use Rattle.threads_errands.specs.Given.CallKindsShows.{AnsweredAreVisible}
+use Rattle.threads_errands.specs.Given.ErrandsCalling.{outcome_of, pair_there}
+use Rattle.threads_callers.specs.Answers.{is_removed, is_replaced, removed_by, replaced_by}
 
 some_mapped : {A B : Type 0} (f : A → B) (o : Option A) → is_some o ≡ is_some (option_map f o)
 some_mapped f None = refl
