@@ -1,8 +1,7 @@
 -- What lies in a drawer is one machine value: it is taken out and put in by value, and reached through a `&` with the thread's token. Assumes `Logic`.
-use Rattle.std.proofs.Common.{◌≡◌, ◌&&◌, ℕ, List, [], ◌∷◌, T, true, refl}
+use Rattle.std.proofs.Common.{◌≡◌, ℕ, List, [], ◌∷◌, refl}
 use seplogic.Ra.Ura.{Ura}
-use mir.Syntax.{Ty}
-use mir.Val.{Val, has_ty, WT}
+use mir.Val.{Val}
 use base.Fraction.{full_share}
 use base.Logic.{sep, wand, apply∗}
 use base.Fml.{Lft, Share, Fml, Incl-refl, ftrue, fsep, fex, fat, flft, ftok}
@@ -67,14 +66,14 @@ module _ (Y : RattleType) (g : Ghosts Y.Denot) where
         → Seq K 𝓛 (‵ (hidden_shr (drawer.the_row R g) κ n b o) ∷ ‵ (flft κ q) ∷ ‵ (ftok every) ∷ Γ) G
     opens t z L {κ} {q} k =
         unhide t $ use3 𝓛 (later (‵ (P n b o) ⊛ Way 𝓛 n b o κ q)) (na_acc_in 𝓛 κ ((κ, q) ∷ []) every (b, o) (P n b o) (Incl-refl κ) refl) $ await t z $ split t $
-        fpick t (λ vs. fsplit t $ move t (1 ∷ []) $ takes_out t L vs (λ x v is good e.
+        fpick t (λ vs. fsplit t $ move t (1 ∷ []) $ takes_out n t L vs (λ x v is good e.
         rewrite t 1 (λ (us : List Val). ‵ (cell_at full_share F.mir us b o)) e refl $ move t (1 ∷ []) $
         use1 𝓛 (‵ (fat full_share (lone F.mir) b o (round v))) (𝓛.laws.raw_at full_share (lone F.mir) b o (round v)) $ k x v is good))
 
     pub shuts : K → Soaks G → {κ : Lft} {q : Share} (x : R.Denot) (v : Val) → Is n x
         → Step K 𝓛 (‵ (flft κ q) ∷ ‵ (ftok every) ∷ Γ) G (‵ (fat full_share (lone F.mir) b o (round v)) ∷ ‵ (R.own_val x (v ∷ [])) ∷ Way 𝓛 n b o κ q ∷ Γ) G
     shuts t z {κ} {q} x v is = step (λ s.
-        use1 𝓛 (‵ (cell_at full_share F.mir (round v ∷ []) b o)) (𝓛.laws.at_raw full_share (lone F.mir) b o (round v)) $ move t (1 ∷ []) $ puts_in t x v is $
+        use1 𝓛 (‵ (cell_at full_share F.mir (round v ∷ []) b o)) (𝓛.laws.at_raw full_share (lone F.mir) b o (round v)) $ move t (1 ∷ []) $ puts_in n t x v is $
         move t (1 ∷ 0 ∷ []) $ fjoin t $ fpack t (List Val) (λ us. fsep (cell_at full_share F.mir us b o) (contents n us)) (round v ∷ []) $
         move t (1 ∷ []) $ split t $ move t (2 ∷ 0 ∷ []) $ join t $
         use2 𝓛 (later (‵ (flft κ q) ⊛ ‵ (ftok every))) (apply∗ 𝓤 (sep 𝓤 (sem 𝓛 (P n b o)) (A.tok (less every (b, o)))) (H.⇛ (sep 𝓤 (A.lft κ q) (A.tok every)))) $

@@ -1,5 +1,6 @@
 //! Drawers: cells of which one number is known of whatever lies in them.
 #![tactic(auto)]
+
 ghost use Rattle.std.specs.Prelude.{◌≡◌, ℕ};
 ghost use base.Fml.{fex, fsep, ftrue};
 ghost use Rattle.seize_drawers.specs.Ownership.{lies_behind};

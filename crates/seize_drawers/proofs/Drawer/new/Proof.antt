@@ -4,14 +4,16 @@ use mir.Syntax.{Args, Fn, a_type, dcons, dnil}
 use mir.Val.{Val}
 use mir.MapTy.{inst_fn}
 use base.Logic.{SProp, emp}
+use base.Fml.{ftrue}
 use prog.Wp.{WpFn}
 use contract.Monad.{fact, fact_i}
 use contract.Running.{tables}
-use types.Kit.{‵, raw, ◌⊛◌, prop, ◌$◌, ◌∵◌, !, qed, by, move, keep, drop, use0, split, rewrite, regoal, fsplit, fjoin}
+use types.Kit.{‵, raw, ◌⊛◌, prop, ◌$◌, ◌∵◌, !, qed, by, move, keep, drop, use0, split, rewrite, regoal, fsplit, fjoin, fpack}
 use types.Part.{agg}
 use types.Run.{of_opd, no_more, and_then, returns, enter}
 use types.ByLocal.{alloc_all, pass_all, free_all, look_at, get, sets}
 use denote.Exit.{no}
+use denote.Laws.{Typed}
 use denote.RattleType.{owns}
 use denote.Param.{bounded, layout}
 use denote.Param.Laws.{param_laws}
@@ -21,7 +23,7 @@ use denote.Triple.Entry.{alive}
 use denote.Triple.Walked.{Stays, stay_dropped, walk_of, Goes-dropped}
 use Rattle.core.proofs.cell.Inside.{one, round, Good-round}
 use Rattle.std.proofs.raw_atomic.Walks.{proved_at, leaves}
-use Rattle.seize_drawers.proofs.Opening.{R, puts_in}
+use Rattle.seize_drawers.proofs.Opening.{R, F, puts_in}
 use Rattle.seize_drawers.specs.contracts.Drawer.new.{ended, clauses}
 use Rattle.seize_drawers.specs.contracts.Drawer.new.Key.{name as #self}
 use Rattle.seize_drawers.proofs.Drawer.new.Statement.{statement}
@@ -37,7 +39,7 @@ new_spec 𝓤 𝓛 𝓜 𝓡 wired Y laws g d met =
     let value = plain (λ _. R Y g) in
     let stays : Stays ends.signature.params ends.kept = (stay_dropped value no, tt) in
     let t = tables 𝓤 H 𝓜 𝓡 𝓡.env in
-    proved_at 𝓛 ends stays says 𝓜 𝓡 (Goes-dropped 𝓛 2 value no (λ κs x f. refl), tt) (#self args) fn (compiled.unfolded 𝓤 H 𝓜 𝓡 wired (Y, tt) d) (λ z are.
+    proved_at 𝓛 ends stays says 𝓜 𝓡 (Goes-dropped 𝓛 1 value no (λ κs x f. refl), tt) (#self args) fn (compiled.unfolded 𝓤 H 𝓜 𝓡 wired (Y, tt) d) (λ z are.
     let Post : Val → SProp 𝓤 = (walk_of 𝓛 ends stays says).post z in
     let x : Y.Denot = z.0.3.0 in
     let n : ℕ = g.label x in
@@ -53,5 +55,6 @@ new_spec 𝓤 𝓛 𝓜 𝓡 wired Y laws g d met =
     sets ! (of_opd ! (get ! refl)) refl got.2 $
     sets ! (agg ! (and_then ! (get ! refl) (no_more !))) refl (Good-round [] (layout Y) v got.2) $
     returns ! (look_at ! 0 refl) $ free_all ! refl $
-    puts_in Y g n ! x v refl $ use0 𝓛 (raw (fact 𝓤 (n ≡ n))) (fact_i 𝓤 (n ≡ n) (emp 𝓤) refl) $ nothing ! $ nothing ! $ fjoin ! $ move ! (3 ∷ 0 ∷ 2 ∷ 1 ∷ []) $
+    puts_in Y g n ! x v refl $ nothing ! $ fpack ! (Typed (F Y g).mir (round v ∷ [])) (λ _. ftrue) (Good-round [] (layout Y) v got.2, tt) $ fjoin ! $
+    use0 𝓛 (raw (fact 𝓤 (n ≡ n))) (fact_i 𝓤 (n ≡ n) (emp 𝓤) refl) $ nothing ! $ nothing ! $ fjoin ! $ move ! (3 ∷ 0 ∷ 2 ∷ 1 ∷ []) $
     by ! (leaves 𝓛 ends stays says z (round v) n (tt, tt) (tt, tt))))
