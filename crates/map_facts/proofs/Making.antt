@@ -1,6 +1,7 @@
 -- The points of the making of a table.
 pub mod EndsNewTable
 pub mod EndsSum
+mod ListWords
 pub mod OwnTables
 pub mod NewTable
 pub mod Sum

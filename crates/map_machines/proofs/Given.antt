@@ -1,7 +1,7 @@
 -- What is so by the crates below, given on to the crates above: these list this crate in place of those.
 pub use Rattle.map_tables.proofs.Ends as TablesEnds
 pub use Rattle.map_tables.proofs.Given.General
-pub use Rattle.map_tables.proofs.Given.SeizeStepsInto
+pub use Rattle.seize.proofs.StepsInto as SeizeStepsInto
 pub use Rattle.map_tables.proofs.Given.SeizeWordsOneOwner
 pub use Rattle.map_tables.proofs.Given.SeizeWordsPlans
 pub use Rattle.map_tables.proofs.Lists as TablesLists

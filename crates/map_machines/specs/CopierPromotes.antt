@@ -4,10 +4,10 @@ use Rattle.map_tables.specs.Given.SeizeWordsWord.{block_in}
 use Rattle.map_tables.specs.Given.SeizeWordsDeclared.at.At.TheVariants.{Root, Word}
 use Rattle.map_tables.specs.Given.SeizeWordsOp.{Out, Load, Store, Exchange, Found, Exchanged}
 use Rattle.map_tables.specs.Given.SeizeWordsPlan.{Plan, Then, Do, Now, plan_as}
-use Rattle.map_tables.specs.Given.SeizeDeclared.rows.settle.Settle.{Settle}
-use Rattle.map_tables.specs.Given.SeizeDeclared.rows.settle.Settled.{Settled}
-use Rattle.map_tables.specs.Given.SeizeDeclared.rows.settle.Settled.TheVariants as settled
-use Rattle.map_tables.specs.Given.SeizeSettle.{retiring, settle_plan}
+use Rattle.seize.specs.declared.rows.settle.Settle.{Settle}
+use Rattle.seize.specs.declared.rows.settle.Settled.{Settled}
+use Rattle.seize.specs.declared.rows.settle.Settled.TheVariants as settled
+use Rattle.seize.specs.Settle.{retiring, settle_plan}
 use Rattle.map_tables.specs.declared.node.Node.{Node}
 use Rattle.map_tables.specs.declared.table.Table.{Table}
 use Rattle.map_tables.specs.declared.table_words.TheConstants.{NEXT, STATUS}

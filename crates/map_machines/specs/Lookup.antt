@@ -4,8 +4,8 @@ use Rattle.map_tables.specs.Given.SeizeWordsWord.{block_in}
 use Rattle.map_tables.specs.Given.SeizeWordsDeclared.at.At.TheVariants.{Root}
 use Rattle.map_tables.specs.Given.SeizeWordsOp.{Out, Load, Found}
 use Rattle.map_tables.specs.Given.SeizeWordsPlan.{Plan, Then, Turn, Do, Now, Seeing}
-use Rattle.map_tables.specs.Given.SeizeDeclared.advance.Advance.{Advance}
-use Rattle.map_tables.specs.Given.SeizeDeclared.advance.Advance.TheVariants.{Goes, Done}
+use Rattle.seize.specs.declared.advance.Advance.{Advance}
+use Rattle.seize.specs.declared.advance.Advance.TheVariants.{Goes, Done}
 use Rattle.map_tables.specs.Chunks.{is_incremental}
 use Rattle.map_tables.specs.Nodes.{table_seen}
 use Rattle.map_tables.specs.TablePlaces.{at_word}

@@ -5,8 +5,8 @@ use Rattle.map_tables.specs.Given.SeizeWordsDeclared.fault.Fault.{Fault}
 use Rattle.map_tables.specs.Given.SeizeWordsDeclared.fault.Fault.TheVariants.{RootsUsedUp, Memory}
 use Rattle.map_tables.specs.Given.SeizeWordsOp.{Out, Store, Exchange, Make, Take, Exchanged, Made}
 use Rattle.map_tables.specs.Given.SeizeWordsPlan.{Plan, Then, Turn, Do, Now, plan_as}
-use Rattle.map_tables.specs.Given.SeizeDeclared.advance.Advance.{Advance}
-use Rattle.map_tables.specs.Given.SeizeDeclared.advance.Advance.TheVariants.{Goes, Waits, Done, Refused}
+use Rattle.seize.specs.declared.advance.Advance.{Advance}
+use Rattle.seize.specs.declared.advance.Advance.TheVariants.{Goes, Waits, Done, Refused}
 use Rattle.map_tables.specs.declared.setting.Setting.{Setting}
 use Rattle.map_tables.specs.declared.node.Node.{Node}
 use Rattle.map_tables.specs.declared.node.Node.TheVariants as node

@@ -3,8 +3,8 @@ use Rattle.std.specs.Prelude.{ℕ, ◌+◌, ◌%◌, ◌^◌, nat_lt, if◌then�
 use Rattle.map_tables.specs.Given.SeizeWordsDeclared.at.At.TheVariants.{Word}
 use Rattle.map_tables.specs.Given.SeizeWordsOp.{Out, Load, Found}
 use Rattle.map_tables.specs.Given.SeizeWordsPlan.{Plan, Then, Turn, Do, Now}
-use Rattle.map_tables.specs.Given.SeizeDeclared.advance.Advance.{Advance}
-use Rattle.map_tables.specs.Given.SeizeDeclared.advance.Advance.TheVariants.{Goes, Done}
+use Rattle.seize.specs.declared.advance.Advance.{Advance}
+use Rattle.seize.specs.declared.advance.Advance.TheVariants.{Goes, Done}
 use Rattle.map_tables.specs.declared.setting.Setting.{Setting}
 use Rattle.map_machines.specs.declared.sum.Sum.{Sum}
 use Rattle.map_machines.specs.declared.sum.Summing.{Summing}

@@ -6,8 +6,9 @@ ghost use Rattle.map_machines.specs.CopierStates.{helping, copying_all, behind, 
 
 use crate::new_table::NewTable;
 use crate::yielding::Yielding;
-use map_tables::named::{Fault, Memory, Settle};
+use map_tables::named::{Fault, Memory};
 use map_tables::{Hashes, Node, Probe, Setting, Table};
+use seize::rows::Settle;
 
 mod claims;
 mod counts;

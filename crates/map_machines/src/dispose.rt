@@ -5,9 +5,11 @@ ghost use Rattle.map_machines.specs.declared.dispose.Disposing.TheVariants as at
 ghost use Rattle.map_tables.specs.Given.SeizeWordsPlan.{May, Steps};
 
 use map_tables::marks::{BORROWED, has, link_of};
-use map_tables::named::{Advance, At, Defer, Link, Memory, Settle, Settled, StepMachine};
+use map_tables::named::{At, Link, Memory};
 use map_tables::table_words::{DEFERRED, NEXT};
 use map_tables::{Node, ResizeMode, Setting, Table};
+use seize::rows::{Defer, Settle, Settled};
+use seize::{Advance, StepMachine};
 
 /// Where a disposal stands.
 #[derive(Clone, Copy)]

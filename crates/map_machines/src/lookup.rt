@@ -3,9 +3,10 @@ ghost use Rattle.std.specs.Prelude.{◌≡◌};
 ghost use Rattle.map_tables.specs.Given.SeizeWordsPlan.{May, MaySee, Steps, Ends};
 ghost use Rattle.map_machines.specs.Lookup.{looking, going, answered, beyond, told, table_read, word_read, roots, probes, nexts, lookup_plan, names_pair};
 
-use map_tables::named::{Advance, At, Link, Look};
+use map_tables::named::{At, Link, Look};
 use map_tables::table_words::NEXT;
 use map_tables::{Aim, Equivalent, Finding, Node, Probe, ResizeMode, Table, Trial, may_be, seen};
+use seize::Advance;
 use std::hash::Hash;
 
 /// Where a lookup stands.

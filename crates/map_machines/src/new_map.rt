@@ -5,8 +5,9 @@ ghost use Rattle.map_machines.specs.NewTable.{new_table_plan};
 ghost use Rattle.map_tables.specs.Given.SeizeWordsPlan.{May, Steps, plan_as};
 
 use crate::new_table::NewTable;
-use map_tables::named::{Advance, At, Fault, Memory, StepMachine};
+use map_tables::named::{At, Fault, Memory};
 use map_tables::{Counter, Node, Setting, Table};
+use seize::{Advance, StepMachine};
 
 /// Where the beginning of a map stands.
 #[derive(Clone, Copy)]

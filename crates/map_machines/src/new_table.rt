@@ -6,9 +6,10 @@ ghost use Rattle.map_tables.specs.Given.SeizeWordsPlan.{May, Steps, plan_as};
 
 use crate::sum::Sum;
 use map_tables::lengths::{LEAST_LEN, MOST_LEN, Reason, len_after, limit_after, turn_after};
-use map_tables::named::{Advance, At, Fault, Link, Memory, StepMachine};
+use map_tables::named::{At, Fault, Link, Memory};
 use map_tables::table_words::{NEXT, PLACES, STATUS};
 use map_tables::{Node, Setting, Status, Table, limit};
+use seize::{Advance, StepMachine};
 
 /// Where a making of a table stands. A table that has no block yet has the link 0.
 #[derive(Clone, Copy)]

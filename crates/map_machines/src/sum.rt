@@ -3,8 +3,9 @@ ghost use Rattle.std.specs.Prelude.{◌≡◌};
 ghost use Rattle.map_machines.specs.Sum.{summing, adds};
 ghost use Rattle.map_tables.specs.Given.SeizeWordsPlan.{May, Steps};
 
-use map_tables::named::{Advance, At, Memory, StepMachine};
+use map_tables::named::{At, Memory};
 use map_tables::{Counter, Setting};
+use seize::{Advance, StepMachine};
 
 /// Where a counting stands.
 #[derive(Clone, Copy)]

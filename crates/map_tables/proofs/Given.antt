@@ -1,5 +1,4 @@
 -- What is so by the crates below, given on to the crates above: these list this crate in place of those.
-pub use Rattle.seize.proofs.Given.General
-pub use Rattle.seize.proofs.Given.SeizeWordsOneOwner
-pub use Rattle.seize.proofs.Given.SeizeWordsPlans
-pub use Rattle.seize.proofs.StepsInto as SeizeStepsInto
+pub use Rattle.seize_words.proofs.General
+pub use Rattle.seize_words.proofs.OneMemory.OneOwner as SeizeWordsOneOwner
+pub use Rattle.seize_words.proofs.OneMemory.Plans as SeizeWordsPlans

@@ -2,7 +2,6 @@
 use Rattle.std.specs.Prelude.{◌==◌, if◌then◌else◌, Some, None}
 use Rattle.std.proofs.Common.{◌≡◌, ℕ, ◌<◌, Bool, true, false, ap, arith}
 use Rattle.std.proofs.lemmas.Bool.{ne_eqb}
-use Rattle.seize.specs.World.{HasListWord}
 use Rattle.map_tables.specs.Nodes.{deferred_word}
 use Rattle.map_tables.specs.declared.node.Node.{Node}
 use Rattle.map_tables.specs.declared.node.Node.TheVariants as node
@@ -22,13 +21,3 @@ module _ {K V : Type 0} where
 -- of a table with places
 pub table_list : (K V : Type 0) (len limit turn : ℕ) → 0 < len → deferred_word {K = K} {V = V} (node.Table len limit turn) ≡ Some DEFERRED
 table_list K V len limit turn some = ap (λ (b : Bool). if b then None else Some DEFERRED) (ne_eqb len 0 (λ z. omega (arith, z, some)))
-
--- a block with words enough has the one of its list
-pub has_list_word : (K V : Type 0) (value : Node K V) (words : ℕ) → DEFERRED < words → HasListWord (deferred_word {K = K} {V = V}) (deferred_word value) words
-has_list_word K V (node.Pair key value) words many = tt
-has_list_word K V (node.Table len limit turn) words many = by (len == 0)
-  where
-    by : (b : Bool) → HasListWord (deferred_word {K = K} {V = V}) (if b then None else Some DEFERRED) words
-    by true = tt
-    by false = many
-has_list_word K V node.Shards words many = tt

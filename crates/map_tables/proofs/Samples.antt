@@ -2,9 +2,9 @@
 mod Words
 use Rattle.std.specs.Prelude.{ℕ, ◌+◌, ◌-◌, ◌*◌, ◌^◌, ◌%◌, ◌≡◌, List, [], ◌∷◌, Option, Some, None, Ok, Err, map, sum, bit_and}
 use Rattle.std.proofs.Common.{refl, inl, inr, arith}
-use Rattle.seize.specs.Given.SeizeWordsWord.{link_to}
-use Rattle.seize.specs.Given.SeizeWordsDeclared.at.At.TheVariants.{Word}
-use Rattle.seize.specs.Given.SeizeWordsDeclared.fault.Fault.TheVariants.{Capacity}
+use Rattle.seize_words.specs.OneMemory.Word.{link_to}
+use Rattle.seize_words.specs.declared.at.At.TheVariants.{Word}
+use Rattle.seize_words.specs.declared.fault.Fault.TheVariants.{Capacity}
 use Rattle.map_tables.specs.declared.lengths.Reason.TheVariants.{Full, Reserved, NoPlace}
 use Rattle.map_tables.specs.declared.resize_mode.ResizeMode.TheVariants.{Incremental, Blocking}
 use Rattle.map_tables.specs.declared.table.Table.{Table}

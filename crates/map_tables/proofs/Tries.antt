@@ -2,7 +2,7 @@
 use Rattle.std.specs.Prelude.{◌==◌, nat_lt, if◌then◌else◌, IfSome}
 use Rattle.std.proofs.Common.{◌≡◌, ◌+◌, ◌-◌, ◌%◌, ◌^◌, ◌≤◌, Bool, true, false, Some, None, refl, arith}
 use Rattle.std.proofs.lemmas.Bool.{ltb-true}
-use Rattle.seize.specs.Given.SeizeWordsWord.{block_in}
+use Rattle.seize_words.specs.OneMemory.Word.{block_in}
 use Rattle.map_tables.specs.Probes.{probe_after}
 use Rattle.map_tables.specs.Trials.{with_met, TriesMeetFew}
 use Rattle.map_tables.specs.declared.trial.Trial.{Trial}

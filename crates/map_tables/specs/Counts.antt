@@ -1,7 +1,7 @@
 -- The count of a map's pairs as its shards say it.
 use Rattle.std.specs.Prelude.{ℕ, ◌-◌, ◌^◌, ◌==◌, nat_lt, bit_and, if◌then◌else◌}
-use Rattle.seize.specs.Given.SeizeWordsDeclared.at.At.{At}
-use Rattle.seize.specs.Given.SeizeWordsDeclared.at.At.TheVariants.{Word}
+use Rattle.seize_words.specs.declared.at.At.{At}
+use Rattle.seize_words.specs.declared.at.At.TheVariants.{Word}
 use Rattle.map_tables.specs.declared.setting.Setting.{Setting}
 
 -- a word read as a number with a sign, and 0 where that is negative

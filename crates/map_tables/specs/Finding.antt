@@ -1,6 +1,6 @@
 -- What the word of a place says of a key that is looked for.
 use Rattle.std.specs.Prelude.{ℕ, ◌/◌, ◌^◌, ◌==◌, ◌&&◌, Bool, not, if◌then◌else◌}
-use Rattle.seize.specs.Given.SeizeWordsWord.{block_in, byte_in}
+use Rattle.seize_words.specs.OneMemory.Word.{block_in, byte_in}
 use Rattle.map_tables.specs.Chunks.{is_incremental}
 use Rattle.map_tables.specs.Marks.{has_mark}
 use Rattle.map_tables.specs.declared.marks.TheConstants.{COPYING, COPIED}

@@ -1,6 +1,6 @@
 -- The marks of a word.
 use Rattle.std.specs.Prelude.{ℕ, ◌/◌, ◌*◌, ◌==◌, Bool, not, bit_and}
-use Rattle.seize.specs.Given.SeizeWordsWord.{block_in, link_to}
+use Rattle.seize_words.specs.OneMemory.Word.{block_in, link_to}
 
 -- the link to its block, with no byte and no mark
 abbrev pub link_in : ℕ → ℕ

@@ -1,7 +1,7 @@
 -- The tries of a key at a table.
 use Rattle.std.specs.Prelude.{ℕ, ◌+◌, ◌-◌, ◌%◌, ◌^◌, ◌<◌, ◌≤◌, ◌==◌, nat_lt, max, if◌then◌else◌, Option, Some, None, IfSome}
-use Rattle.seize.specs.Given.SeizeWordsWord.{block_in}
-use Rattle.seize.specs.Given.SeizeWordsDeclared.at.At.{At}
+use Rattle.seize_words.specs.OneMemory.Word.{block_in}
+use Rattle.seize_words.specs.declared.at.At.{At}
 use Rattle.map_tables.specs.Probes.{probe_from, probe_after}
 use Rattle.map_tables.specs.TablePlaces.{at_place}
 use Rattle.map_tables.specs.declared.probe.Probe.{Probe}

@@ -5,7 +5,7 @@ ghost use Rattle.map_tables.specs.Finding.{finding, may_name};
 use crate::hash::h2;
 use crate::marks::{COPIED, COPYING, has};
 use crate::resize_mode::ResizeMode;
-use seize::named::Link;
+use seize_words::Link;
 
 /// What a call that looks for a key may do in the end.
 #[derive(Clone, Copy)]

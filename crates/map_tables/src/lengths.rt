@@ -4,7 +4,7 @@ ghost use Rattle.std.specs.Int.{IsNextPowerOfTwo};
 ghost use Rattle.map_tables.specs.Lengths.{if_few, places_for, entries_of, len_of, by_count, next_len, is_crowded, next_limit, next_turn, HaveTableLens, GoByTheCounter, OnlyTheLastEnds};
 
 use crate::probe::limit;
-use seize::named::Fault;
+use seize_words::Fault;
 
 /// The fewest places that a table has.
 pub const LEAST_LEN: u64 = 8;

@@ -2,7 +2,7 @@
 ghost use Rattle.std.specs.Prelude.{◌≡◌};
 ghost use Rattle.map_tables.specs.Marks.{link_in, unmarked_in, has_mark};
 
-use seize::named::Link;
+use seize_words::Link;
 
 /// The mark of a place whose copying has begun.
 pub const COPYING: u64 = 1;

@@ -1,7 +1,7 @@
 //! The values of a map's blocks.
 
 use crate::table_words::DEFERRED;
-use seize::rows::{Defers, LeftOver};
+use seize_words::{Defers, LeftOver};
 
 /// The value of a block of a map.
 #[derive(Drop)]

@@ -4,7 +4,7 @@ ghost use Rattle.map_tables.specs.TablePlaces.{at_word, at_place};
 
 use crate::table::Table;
 use crate::table_words::PLACES;
-use seize::named::{At, Link};
+use seize_words::{At, Link};
 
 impl Table {
     /// Returns the name of one of its words that is no place.

@@ -5,7 +5,7 @@ ghost use Rattle.map_tables.specs.Trials.{first_trial, trial_on, place_tried, wi
 use crate::hash::h1;
 use crate::probe::Probe;
 use crate::table::Table;
-use seize::named::{At, Link};
+use seize_words::{At, Link};
 
 /// A try at a table: the table in which a key is looked for, the place at which it is, and what the tries before it have met.
 #[derive(Clone, Copy)]

@@ -12,6 +12,6 @@ pub use Rattle.map_rule.proofs.Keys as RuleKeys
 pub use Rattle.map_rule.proofs.Laws as RuleLaws
 pub use Rattle.map_rule.proofs.Words as RuleWords
 pub use Rattle.map_rule.proofs.World as RuleWorld
-pub use Rattle.map_tables.proofs.Lists as TablesLists
+pub use Rattle.run_schedules.proofs.Given.TablesLists
 pub use Rattle.run_schedules.proofs.Runs.Laws as RunsLaws
 pub use Rattle.run_schedules.proofs.Runs.Pairs as RunsPairs

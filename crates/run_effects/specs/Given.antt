@@ -23,26 +23,26 @@ pub use Rattle.map_rule.specs.Maps as RuleMaps
 pub use Rattle.map_rule.specs.Moments as RuleMoments
 pub use Rattle.map_rule.specs.Rule as RuleRule
 pub use Rattle.map_rule.specs.Words as RuleWords
-pub use Rattle.map_tables.specs.Chunks as TablesChunks
-pub use Rattle.map_tables.specs.Finding as TablesFinding
-pub use Rattle.map_tables.specs.Nodes as TablesNodes
-pub use Rattle.map_tables.specs.Powers as TablesPowers
-pub use Rattle.map_tables.specs.TablePlaces as TablesTablePlaces
-pub use Rattle.map_tables.specs.Trials as TablesTrials
-pub use Rattle.map_tables.specs.declared as TablesDeclared
-pub use Rattle.papaya_raw.specs.Call as RawCall
-pub use Rattle.papaya_raw.specs.CallAsks as RawCallAsks
-pub use Rattle.papaya_raw.specs.CallFills as RawCallFills
-pub use Rattle.papaya_raw.specs.CallPoints as RawCallPoints
-pub use Rattle.papaya_raw.specs.EndMap as RawEndMap
-pub use Rattle.papaya_raw.specs.Given.ReservesDeclared
-pub use Rattle.papaya_raw.specs.Given.ReservesReserve
-pub use Rattle.papaya_raw.specs.Given.SweepsSweep
-pub use Rattle.papaya_raw.specs.Given.SweepsSweepPoints
-pub use Rattle.papaya_raw.specs.Machine as RawMachine
-pub use Rattle.papaya_raw.specs.Progress as RawProgress
-pub use Rattle.papaya_raw.specs.Replies as RawReplies
-pub use Rattle.papaya_raw.specs.declared as RawDeclared
+pub use Rattle.run_schedules.specs.Given.RawCall
+pub use Rattle.run_schedules.specs.Given.RawCallAsks
+pub use Rattle.run_schedules.specs.Given.RawCallFills
+pub use Rattle.run_schedules.specs.Given.RawCallPoints
+pub use Rattle.run_schedules.specs.Given.RawDeclared
+pub use Rattle.run_schedules.specs.Given.RawEndMap
+pub use Rattle.run_schedules.specs.Given.RawMachine
+pub use Rattle.run_schedules.specs.Given.RawProgress
+pub use Rattle.run_schedules.specs.Given.RawReplies
+pub use Rattle.run_schedules.specs.Given.ReservesDeclared
+pub use Rattle.run_schedules.specs.Given.ReservesReserve
+pub use Rattle.run_schedules.specs.Given.SweepsSweep
+pub use Rattle.run_schedules.specs.Given.SweepsSweepPoints
+pub use Rattle.run_schedules.specs.Given.TablesChunks
+pub use Rattle.run_schedules.specs.Given.TablesDeclared
+pub use Rattle.run_schedules.specs.Given.TablesFinding
+pub use Rattle.run_schedules.specs.Given.TablesNodes
+pub use Rattle.run_schedules.specs.Given.TablesPowers
+pub use Rattle.run_schedules.specs.Given.TablesTablePlaces
+pub use Rattle.run_schedules.specs.Given.TablesTrials
 pub use Rattle.run_schedules.specs.Runs.LifeCycle as RunsLifeCycle
 pub use Rattle.run_schedules.specs.Runs.Log as RunsLog
 pub use Rattle.run_schedules.specs.Runs.Present as RunsPresent

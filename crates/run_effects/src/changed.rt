@@ -2,8 +2,7 @@
 ghost use Rattle.std.specs.Prelude.{◌≡◌};
 ghost use Rattle.run_effects.specs.ReportingMemory.Changed.{kind_of};
 
-use map_tables::Node;
-use seize_words::At;
+use run_schedules::{At, Node};
 
 /// What the value of a block is, without what a pair holds. A table of no places stands in a block whose pair is out.
 #[derive(Clone, Copy)]

@@ -4,7 +4,7 @@ ghost use Rattle.run_effects.specs.Copies.Copies.{ClonesAreSame};
 ghost use Rattle.run_effects.specs.Copies.Same.{same_event, same_hash, same_mode, same_of_calls, same_of_guards, same_of_maps, same_setup};
 
 use crate::calls;
-use papaya_raw::ResizeMode;
+use run_schedules::ResizeMode;
 use run_schedules::event::Event;
 use run_schedules::key_hash::KeyHash;
 use run_schedules::setup::Setup;

@@ -1,16 +1,15 @@
 //! The pairs that are in a memory still, of those that were stored.
 ghost use Rattle.std.specs.Prelude.{◌≡◌, ◌≢◌, ◌≤◌, ℕ, Some, IfOk};
-ghost use Rattle.seize_words.specs.OneMemory.Mem.{value_at};
-ghost use Rattle.map_tables.specs.declared.node.Node.TheVariants as node;
+ghost use Rattle.run_schedules.specs.Given.SeizeWordsMem.{value_at};
+ghost use Rattle.run_schedules.specs.Given.TablesDeclared.node.Node.TheVariants as node;
 ghost use Rattle.run_effects.specs.Effects.Known.{known};
 ghost use Rattle.run_effects.specs.declared.role.Role.TheVariants.{Free};
 ghost use Rattle.run_effects.specs.Tallies.Left.{HoldPairs, noted_below};
 
 use crate::notes::Notes;
 use crate::role::Role;
-use papaya_raw::Node;
 use run_schedules::ended::Pair;
-use seize_words::{Memory, Plain};
+use run_schedules::{Memory, Node, Plain};
 use std::alloc::{AllocError, Global};
 
 /// Takes the pair of this number out of its block.

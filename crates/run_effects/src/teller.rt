@@ -3,8 +3,7 @@ ghost use Rattle.std.specs.Prelude.{◌≡◌, false};
 ghost use Rattle.run_effects.specs.declared.changed.Changed.TheVariants.{Nothing};
 
 use crate::changed::{Changed, Kind};
-use map_tables::Node;
-use seize_words::{At, Fault, Look, Memory, Refuses};
+use run_schedules::{At, Fault, Look, Memory, Node, Refuses};
 
 /// A memory, and what its last operation has changed. It makes a store as a swap, which tells the word before. Where it is told to, it refuses each block.
 #[derive(Drop)]

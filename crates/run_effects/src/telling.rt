@@ -12,11 +12,11 @@ use crate::changed::{Changed, Kind};
 use crate::did::Did;
 use crate::notes::Notes;
 use crate::role::Role;
-use map_tables::table_words::{DEFERRED, NEXT, PLACES};
 use run_schedules::effect::{Effect, Growth, Spot, TableId, Thing};
 use run_schedules::shapes::TableShape;
+use run_schedules::table_words::{DEFERRED, NEXT, PLACES};
+use run_schedules::{At, Link};
 use seize::states::FIRST;
-use seize_words::{At, Link};
 use std::alloc::AllocError;
 
 impl Acting {

@@ -3,7 +3,7 @@
 
 ghost use Rattle.std.specs.Prelude.{◌≡◌};
 
-use crate::rows::Defers;
+use seize_words::Defers;
 
 /// An element type, with the type of the reclaimers of its values. What its values put, `Defers` says.
 pub trait Reclaimed: Defers {

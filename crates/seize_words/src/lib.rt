@@ -17,6 +17,7 @@ mod plain;
 mod refused;
 mod room;
 pub mod slots;
+mod values;
 mod word_array;
 mod words;
 
@@ -29,6 +30,7 @@ pub use memory::{Look, Memory, Refuses};
 pub use operation::Operation;
 pub use plain::Plain;
 pub use refused::{Refused, RefusedKey};
+pub use values::{Defers, LeftOver};
 pub use word_array::WordArray;
 pub use words::Words;
 

@@ -17,7 +17,8 @@ use Rattle.papaya_raw.specs.Given.TablesNodes.{deferred_word}
 use Rattle.papaya_raw.specs.Given.TablesLengths.{next_len, IsTableLen}
 use Rattle.map_rule.specs.Given.ResizeNewTable.{standing, goes, counted, with_block, after_making, made, makes, promotes, making_of}
 use Rattle.map_rule.specs.Given.ResizeSum.{sum_plan}
-use Rattle.papaya_raw.proofs.Given.TablesLists.{its_list, has_list_word}
+use Rattle.papaya_raw.proofs.Given.TablesLists.{its_list}
+use Rattle.map_facts.proofs.Making.ListWords.{has_list_word}
 use Rattle.papaya_raw.specs.Given.TablesDeclared.lengths.Reason.{Reason}
 use Rattle.papaya_raw.specs.Given.TablesDeclared.node.Node.{Node}
 use Rattle.papaya_raw.specs.Given.TablesDeclared.node.Node.TheVariants as node

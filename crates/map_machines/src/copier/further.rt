@@ -10,9 +10,10 @@ use crate::copier::{Copier, Copying};
 use crate::new_table::NewTable;
 use crate::yielding::Yielding;
 use map_tables::lengths::Reason;
-use map_tables::named::{Advance, Link, Memory, StepMachine};
+use map_tables::named::{Link, Memory};
 use map_tables::table_words::{NEXT, STATUS};
 use map_tables::{Node, Status, Table};
+use seize::{Advance, StepMachine};
 
 impl Copier {
     /// Reads which table follows one that has no place for a pair.

@@ -8,9 +8,11 @@ ghost use Rattle.map_machines.specs.CopierPromotes.{table_retired, promotes, ann
 
 use crate::copier::{Copier, Copying};
 use crate::yielding::Yielding;
-use map_tables::named::{At, Link, Memory, Settle, Settled, StepMachine};
+use map_tables::named::{At, Link, Memory};
 use map_tables::table_words::{NEXT, STATUS};
 use map_tables::{Node, Status, Table};
+use seize::StepMachine;
+use seize::rows::{Settle, Settled};
 
 impl Copier {
     /// Makes the next table the root.

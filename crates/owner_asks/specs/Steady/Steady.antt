@@ -3,8 +3,8 @@ use Rattle.std.specs.Prelude.{◌≡◌, ℕ, ◌≤◌, ◌⊎◌, Bool, true, 
 use denote.Ref.{Bor}
 use Rattle.seize_words.specs.OneMemory.Mem.{Mem}
 use Rattle.seize_words.specs.declared.fault.Fault.{Fault}
-use Rattle.map_tables.specs.Given.SeizeLeave.{leaving}
-use Rattle.map_tables.specs.Given.SeizeDeclared.states.TheConstants.{ACTIVE}
+use Rattle.seize.specs.Leave.{leaving}
+use Rattle.seize.specs.declared.states.TheConstants.{ACTIVE}
 use Rattle.map_tables.specs.Nodes.{deferred_word}
 use Rattle.map_tables.specs.declared.node.Node.{Node}
 use Rattle.map_tables.specs.declared.setting.Setting.{Setting}

@@ -2,10 +2,10 @@
 use Rattle.std.specs.Prelude.{◌<◌, ◌⊎◌, ◌^◌, length, nat_lt, if◌then◌else◌}
 use Rattle.std.proofs.Common.{◌≡◌, ℕ, Bool, true, false, List, [], ◌∷◌, inl, inr, refl, sym, ap, subst, arith, ◌∙◌}
 use Rattle.std.proofs.lemmas.Bool.{ltb-false, ltb-true}
-use Rattle.map_tables.specs.Given.SeizeReclaimAll.{clearing, reclaiming_all}
-use Rattle.map_tables.specs.Given.SeizeDeclared.rows.reclaim_all.ReclaimAll.{ReclaimAll}
-use Rattle.map_tables.specs.Given.SeizeDeclared.rows.settle.Settled.{Settled}
-use Rattle.map_tables.specs.Given.SeizeDeclared.rows.settle.Settled.TheVariants as settled
+use Rattle.seize.specs.ReclaimAll.{clearing, reclaiming_all}
+use Rattle.seize.specs.declared.rows.reclaim_all.ReclaimAll.{ReclaimAll}
+use Rattle.seize.specs.declared.rows.settle.Settled.{Settled}
+use Rattle.seize.specs.declared.rows.settle.Settled.TheVariants as settled
 use Rattle.play_events.specs.Given.ScenesDeclared.callers.TheConstants.{SLOTS}
 use Rattle.play_events.specs.Given.ScenesScene.{slot_of}
 use Rattle.run_schedules.specs.declared.effect.Effect.{Effect}

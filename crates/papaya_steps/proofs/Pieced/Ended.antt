@@ -1,8 +1,8 @@
 -- An event by which a map ends: the list of acts goes on where the end begins, and by each of its steps.
 use Rattle.std.specs.Prelude.{◌⊎◌, Some, if◌then◌else◌}
 use Rattle.std.proofs.Common.{◌≡◌, ℕ, Bool, true, false, List, [], ◌∷◌, inl, inr, refl, sym, ap, subst, arith, ◌∙◌}
-use Rattle.map_tables.specs.Given.SeizeDeclared.rows.settle.Settled.{Settled}
-use Rattle.map_tables.specs.Given.SeizeDeclared.rows.settle.Settled.TheVariants as settled
+use Rattle.seize.specs.declared.rows.settle.Settled.{Settled}
+use Rattle.seize.specs.declared.rows.settle.Settled.TheVariants as settled
 use Rattle.map_tables.specs.declared.node.Node.{Node}
 use Rattle.play_events.specs.Given.ScenesScene.{slot_of}
 use Rattle.run_schedules.specs.declared.effect.Effect.{Effect}

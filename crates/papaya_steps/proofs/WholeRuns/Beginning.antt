@@ -1,13 +1,13 @@
 -- Before all events a scheduler is as events ask of it, whatever was chosen of numbers of blocks.
 use Rattle.std.specs.Prelude.{◌≡◌, ◌<◌, ◌≤◌, ◌^◌, ℕ, Bool, List, [], ◌∷◌, length, Option, None, Some, min, slice_get, slice_index_or, map}
 use Rattle.std.proofs.Common.{refl, sym, ap, subst, ◌∙◌, inr, arith, inl}
-use Rattle.map_tables.specs.Given.SeizeDeclared.states.TheConstants.{HEAD}
+use Rattle.seize.specs.declared.states.TheConstants.{HEAD}
 use Rattle.map_tables.specs.declared.node.Node.{Node}
 use Rattle.play_events.specs.Given.PointsSteps.{AreLawful}
 use Rattle.play_events.proofs.Given.PointsMaking.OwnTables.{zero_at}
 use Rattle.play_events.proofs.Given.MomentsNewMaps.{pairs_begin}
 use Rattle.play_events.proofs.Given.MomentsNumbers.{numbers_begin}
-use Rattle.map_tables.specs.Given.SeizeWorld.{Chooses, SlotsTaken, World}
+use Rattle.seize.specs.World.{Chooses, SlotsTaken, World}
 use Rattle.map_tables.specs.Nodes.{deferred_word}
 use Rattle.map_tables.specs.declared.setting.Setting.{Setting}
 use Rattle.seize_words.specs.OneMemory.Mem.{Mem, word_at}

@@ -20,7 +20,7 @@ use Rattle.run_effects.specs.declared.role.Role.{Role}
 use Rattle.run_effects.specs.declared.role.Role.TheVariants as role
 use Rattle.play_events.specs.Given.FollowsBlocks.{HasRole, RefinesBlocks}
 use Rattle.play_events.specs.Given.SpotsUnreclaimed.{RefinesUnreclaimed, is_unreclaimed}
-use Rattle.map_tables.specs.Given.SeizeWorld.{World}
+use Rattle.seize.specs.World.{World}
 use Rattle.seize_words.specs.OneMemory.Mem.{value_at}
 use Rattle.run_effects.specs.Tallies.Left.{HoldPairs, noted, noted_below}
 use Rattle.run_effects.proofs.Tallies.Numbers.{once as bit}

@@ -1,7 +1,7 @@
 -- Which row an event works with on a slot, as far as its deeds tell it.
 use Rattle.std.specs.Prelude.{◌≡◌, false}
-use Rattle.map_tables.specs.Given.SeizeDeclared.rows.register.Registering.TheVariants as registers
-use Rattle.map_tables.specs.Given.SeizeDeclared.states.TheConstants.{IDLE}
+use Rattle.seize.specs.declared.rows.register.Registering.TheVariants as registers
+use Rattle.seize.specs.declared.states.TheConstants.{IDLE}
 use Rattle.play_events.specs.Given.ScenesDeclared.row.SlotRow.{SlotRow}
 use Rattle.play_events.specs.Given.ScenesDeclared.row.SlotRow.TheVariants as rows
 use Rattle.run_schedules.specs.declared.event.Event.{Event}

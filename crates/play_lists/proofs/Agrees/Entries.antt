@@ -2,14 +2,14 @@
 use Rattle.std.specs.Prelude.{◌==◌, Bool, true, false, is_ok, length, if◌then◌else◌}
 use Rattle.std.proofs.Common.{◌≡◌, ℕ, List, [], ◌∷◌, refl, sym, subst}
 use Rattle.seize_acts.specs.Acts.Answers.{Grant}
-use Rattle.map_tables.specs.Given.SeizeReclaimAll.{reclaim_all_plan}
-use Rattle.map_tables.specs.Given.SeizeDeclared.rows.leave.Leave.{Leave}
-use Rattle.map_tables.specs.Given.SeizeDeclared.rows.leave.Leaving.{Leaving}
-use Rattle.map_tables.specs.Given.SeizeDeclared.rows.leave.Leaving.TheVariants as leaves
-use Rattle.map_tables.specs.Given.SeizeDeclared.rows.register.Registering.{Registering}
-use Rattle.map_tables.specs.Given.SeizeDeclared.rows.register.Registering.TheVariants as registers
-use Rattle.map_tables.specs.Given.SeizeDeclared.rows.settle.Settled.{Settled}
-use Rattle.map_tables.specs.Given.SeizeDeclared.states.TheConstants.{ACTIVE}
+use Rattle.seize.specs.ReclaimAll.{reclaim_all_plan}
+use Rattle.seize.specs.declared.rows.leave.Leave.{Leave}
+use Rattle.seize.specs.declared.rows.leave.Leaving.{Leaving}
+use Rattle.seize.specs.declared.rows.leave.Leaving.TheVariants as leaves
+use Rattle.seize.specs.declared.rows.register.Registering.{Registering}
+use Rattle.seize.specs.declared.rows.register.Registering.TheVariants as registers
+use Rattle.seize.specs.declared.rows.settle.Settled.{Settled}
+use Rattle.seize.specs.declared.states.TheConstants.{ACTIVE}
 use Rattle.map_tables.specs.Nodes.{deferred_word, was_left}
 use Rattle.run_kept.specs.Given.ResizeNewMap.{new_map_plan}
 use Rattle.run_finds.specs.Given.ResizeDeclared.new_map.NewMap.{NewMap}

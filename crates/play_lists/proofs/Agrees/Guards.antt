@@ -3,13 +3,13 @@ use Rattle.std.specs.Prelude.{Bool, true, false, Option, Some, None, option_map,
 use Rattle.std.proofs.Common.{◌≡◌, ℕ, List, [], ◌∷◌, refl, ap, sym, subst, ◌∙◌}
 use Rattle.seize_acts.specs.Acts.Acts.{row_steps}
 use Rattle.seize_acts.specs.Acts.Answers.{Grant}
-use Rattle.map_tables.specs.Given.SeizeWorld.{World, Row, Rests, Begins as BeginsSo, IsInside, Request, with_at}
-use Rattle.map_tables.specs.Given.SeizeReclaimAll.{reclaim_all_plan}
-use Rattle.map_tables.specs.Given.SeizeDeclared.advance.Advance.{Advance}
-use Rattle.map_tables.specs.Given.SeizeDeclared.advance.Advance.TheVariants as progress
-use Rattle.map_tables.specs.Given.SeizeDeclared.rows.reclaim_all.ReclaimAll.{ReclaimAll}
-use Rattle.map_tables.specs.Given.SeizeDeclared.rows.settle.Settled.{Settled}
-use Rattle.map_tables.specs.Given.SeizeDeclared.rows.settle.Settled.TheVariants as settled
+use Rattle.seize.specs.World.{World, Row, Rests, Begins as BeginsSo, IsInside, Request, with_at}
+use Rattle.seize.specs.ReclaimAll.{reclaim_all_plan}
+use Rattle.seize.specs.declared.advance.Advance.{Advance}
+use Rattle.seize.specs.declared.advance.Advance.TheVariants as progress
+use Rattle.seize.specs.declared.rows.reclaim_all.ReclaimAll.{ReclaimAll}
+use Rattle.seize.specs.declared.rows.settle.Settled.{Settled}
+use Rattle.seize.specs.declared.rows.settle.Settled.TheVariants as settled
 use Rattle.map_tables.specs.Nodes.{deferred_word, was_left}
 use Rattle.map_tables.specs.declared.node.Node.{Node}
 use Rattle.map_tables.specs.declared.setting.Setting.{Setting}

@@ -5,7 +5,7 @@ use Rattle.run_schedules.specs.Runs.Present.{Present}
 use Rattle.run_schedules.specs.declared.effect.Effect.{Effect}
 use Rattle.run_schedules.specs.Schedules.Effects.{with_effect, with_effects}
 use Rattle.run_schedules.specs.Schedules.Moment.{Moment}
-use Rattle.map_tables.specs.Given.SeizeDeclared.rows.settle.Settled.{Settled}
+use Rattle.seize.specs.declared.rows.settle.Settled.{Settled}
 use Rattle.run_finds.specs.Given.ResizeDeclared.new_map.NewMap.{NewMap}
 use Rattle.run_schedules.specs.Deeds.Deeds.{Deed, Begins, MapComes, Makes, MapFails, Ends, MapGoes, Entry, acted_on, after, at_work, begun, caller_of, moment, there_on}
 use Rattle.play_lists.specs.Played.Play.{Ending, ending_deed, has_root, is_over, making_deed, pairs_for}

@@ -4,7 +4,7 @@ use Rattle.std.specs.Option.{option_or}
 use Rattle.std.proofs.Common.{◌≡◌, ℕ, Bool, true, List, [], ◌∷◌, ◌++◌, inl, inr, refl, ap, sym, subst, ◌∙◌}
 use Rattle.std.proofs.lemmas.List.Folds.{find-append}
 use Rattle.many_acts.proofs.Given.FollowsCalling.{is_same_is, is_same_refl}
-use Rattle.map_tables.specs.Given.SeizeWorld.{IsInside, Use}
+use Rattle.seize.specs.World.{IsInside, Use}
 use Rattle.many_acts.specs.Given.ScenesDeclared.row.SlotRow.{SlotRow}
 use Rattle.run_schedules.specs.Runs.Present.{guard_of}
 use Rattle.run_schedules.specs.Runs.Same.{is_same}

@@ -2,11 +2,11 @@
 use Rattle.std.specs.Prelude.{◌≢◌, ◌⊎◌, ◌+◌, Option, Some, None, option_map}
 use Rattle.std.proofs.Common.{◌≡◌, ℕ, Bool, inl, inr, refl, ap, sym, subst, ◌∙◌}
 use Rattle.std.proofs.lemmas.Bool.{cases_eq}
-use Rattle.map_tables.specs.Given.SeizeWorld.{World, with_at}
-use Rattle.map_tables.specs.Given.SeizeDeclared.advance.Advance.{Advance}
-use Rattle.map_tables.specs.Given.SeizeDeclared.advance.Advance.TheVariants as progress
-use Rattle.map_tables.specs.Given.SeizeDeclared.rows.settle.Settled.{Settled}
-use Rattle.map_tables.specs.Given.SeizeDeclared.rows.settle.Settled.TheVariants as settled
+use Rattle.seize.specs.World.{World, with_at}
+use Rattle.seize.specs.declared.advance.Advance.{Advance}
+use Rattle.seize.specs.declared.advance.Advance.TheVariants as progress
+use Rattle.seize.specs.declared.rows.settle.Settled.{Settled}
+use Rattle.seize.specs.declared.rows.settle.Settled.TheVariants as settled
 use Rattle.map_tables.specs.declared.node.Node.{Node}
 use Rattle.map_tables.specs.declared.setting.Setting.{Setting}
 use Rattle.run_finds.specs.Given.ResizeDeclared.new_map.NewMap.{NewMap}

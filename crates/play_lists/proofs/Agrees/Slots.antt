@@ -2,14 +2,14 @@
 use Rattle.std.specs.Prelude.{◌≢◌, ◌⊎◌, ◌==◌, ◌+◌, Bool, true, false, Option, Some, if◌then◌else◌}
 use Rattle.std.proofs.Common.{◌≡◌, ℕ, List, [], ◌∷◌, ◌++◌, inl, inr, refl, ap, sym, subst, ◌∙◌}
 use Rattle.std.proofs.lemmas.Bool.{cases_eq}
-use Rattle.map_tables.specs.Given.SeizeWorld.{World, Begins as BeginsSo, Vacant, Outside, Inside, Changing, IsInside, Use, Steps', one_more, with_at}
-use Rattle.map_tables.specs.Given.SeizeDeclared.rows.leave.Leave.{Leave}
-use Rattle.map_tables.specs.Given.SeizeDeclared.rows.leave.Leaving.{Leaving}
-use Rattle.map_tables.specs.Given.SeizeDeclared.rows.leave.Leaving.TheVariants as leaves
-use Rattle.map_tables.specs.Given.SeizeDeclared.rows.register.Register.{Register}
-use Rattle.map_tables.specs.Given.SeizeDeclared.rows.register.Registering.{Registering}
-use Rattle.map_tables.specs.Given.SeizeDeclared.rows.register.Registering.TheVariants as registers
-use Rattle.map_tables.specs.Given.SeizeDeclared.states.TheConstants.{ACTIVE}
+use Rattle.seize.specs.World.{World, Begins as BeginsSo, Vacant, Outside, Inside, Changing, IsInside, Use, Steps', one_more, with_at}
+use Rattle.seize.specs.declared.rows.leave.Leave.{Leave}
+use Rattle.seize.specs.declared.rows.leave.Leaving.{Leaving}
+use Rattle.seize.specs.declared.rows.leave.Leaving.TheVariants as leaves
+use Rattle.seize.specs.declared.rows.register.Register.{Register}
+use Rattle.seize.specs.declared.rows.register.Registering.{Registering}
+use Rattle.seize.specs.declared.rows.register.Registering.TheVariants as registers
+use Rattle.seize.specs.declared.states.TheConstants.{ACTIVE}
 use Rattle.map_tables.specs.Nodes.{deferred_word}
 use Rattle.map_tables.specs.declared.node.Node.{Node}
 use Rattle.many_acts.specs.Given.CallersRows.{IsUsedAlike}

@@ -3,22 +3,22 @@ use Rattle.std.specs.Prelude.{◌==◌, ◌⊎◌, Bool, Some, None, if◌then�
 use Rattle.std.proofs.Common.{◌≡◌, ℕ, true, false, inl, inr, refl, subst, sym}
 use Rattle.seize_acts.specs.Acts.Answers.{Grant, stepped}
 use Rattle.run_schedules.specs.Given.SeizeWordsMem.{Mem}
-use Rattle.map_tables.specs.Given.SeizeEnter.{enter_plan, unregister_plan}
-use Rattle.map_tables.specs.Given.SeizeLeave.{leave_plan}
-use Rattle.map_tables.specs.Given.SeizeReclaimAll.{next_batch, next_head, plan_at, reclaim_all_plan, standing, within}
-use Rattle.map_tables.specs.Given.SeizeRegister.{register_plan}
-use Rattle.map_tables.specs.Given.SeizeSettle.{settle_plan}
-use Rattle.map_tables.specs.Given.SeizeDeclared.rows.leave.Leave.{Leave}
-use Rattle.map_tables.specs.Given.SeizeDeclared.rows.leave.Leaving.{Leaving}
-use Rattle.map_tables.specs.Given.SeizeDeclared.rows.leave.Leaving.TheVariants as leaves
-use Rattle.map_tables.specs.Given.SeizeDeclared.rows.reclaim_all.ReclaimAll.{ReclaimAll}
-use Rattle.map_tables.specs.Given.SeizeDeclared.rows.reclaim_all.Reclaiming.{Reclaiming}
-use Rattle.map_tables.specs.Given.SeizeDeclared.rows.reclaim_all.Reclaiming.TheVariants as at
-use Rattle.map_tables.specs.Given.SeizeDeclared.rows.register.Registering.{Registering}
-use Rattle.map_tables.specs.Given.SeizeDeclared.rows.register.Registering.TheVariants as registers
-use Rattle.map_tables.specs.Given.SeizeDeclared.rows.settle.Settle.{Settle}
-use Rattle.map_tables.specs.Given.SeizeDeclared.rows.settle.Settled.{Settled}
-use Rattle.map_tables.specs.Given.SeizeDeclared.states.TheConstants.{ACTIVE}
+use Rattle.seize.specs.Enter.{enter_plan, unregister_plan}
+use Rattle.seize.specs.Leave.{leave_plan}
+use Rattle.seize.specs.ReclaimAll.{next_batch, next_head, plan_at, reclaim_all_plan, standing, within}
+use Rattle.seize.specs.Register.{register_plan}
+use Rattle.seize.specs.Settle.{settle_plan}
+use Rattle.seize.specs.declared.rows.leave.Leave.{Leave}
+use Rattle.seize.specs.declared.rows.leave.Leaving.{Leaving}
+use Rattle.seize.specs.declared.rows.leave.Leaving.TheVariants as leaves
+use Rattle.seize.specs.declared.rows.reclaim_all.ReclaimAll.{ReclaimAll}
+use Rattle.seize.specs.declared.rows.reclaim_all.Reclaiming.{Reclaiming}
+use Rattle.seize.specs.declared.rows.reclaim_all.Reclaiming.TheVariants as at
+use Rattle.seize.specs.declared.rows.register.Registering.{Registering}
+use Rattle.seize.specs.declared.rows.register.Registering.TheVariants as registers
+use Rattle.seize.specs.declared.rows.settle.Settle.{Settle}
+use Rattle.seize.specs.declared.rows.settle.Settled.{Settled}
+use Rattle.seize.specs.declared.states.TheConstants.{ACTIVE}
 use Rattle.map_tables.specs.Nodes.{deferred_word, was_left}
 use Rattle.map_tables.specs.declared.node.Node.{Node}
 use Rattle.run_finds.specs.Given.TellerTells.{StepsObserved}

@@ -5,20 +5,20 @@ use Rattle.std.specs.Result.{is_err}
 use Rattle.std.proofs.Common.{refl, sym, ap, subst, ◌∙◌}
 use Rattle.run_schedules.specs.Given.SeizeWordsMem.{Mem, Can, Took, value_at}
 use Rattle.run_schedules.specs.Given.SeizeWordsPlan.{Plan, May, Steps}
-use Rattle.map_tables.specs.Given.SeizeEnter.{enter_plan, unregister_plan}
-use Rattle.map_tables.specs.Given.SeizeLaw.{Entered}
-use Rattle.map_tables.specs.Given.SeizeLeave.{leave_plan}
-use Rattle.map_tables.specs.Given.SeizeRegister.{register_plan}
-use Rattle.map_tables.specs.Given.SeizeSettle.{settle_plan}
-use Rattle.map_tables.specs.Given.SeizeWorld.{MayStep, Rests, Row, Steps', World, with_at}
-use Rattle.map_tables.specs.Given.SeizeWorld as world
-use Rattle.map_tables.specs.Given.SeizeDeclared.rows.leave.Leave.{Leave}
-use Rattle.map_tables.specs.Given.SeizeDeclared.rows.register.Register.{Register}
-use Rattle.map_tables.specs.Given.SeizeDeclared.rows.settle.Settle.{Settle}
-use Rattle.map_tables.specs.Given.SeizeDeclared.advance.Advance.{Advance}
-use Rattle.map_tables.specs.Given.SeizeDeclared.advance.Advance.TheVariants as progress
-use Rattle.map_tables.specs.Given.SeizeDeclared.rows.settle.Settled.{Settled}
-use Rattle.map_tables.specs.Given.SeizeDeclared.rows.settle.Settled.TheVariants as settled
+use Rattle.seize.specs.Enter.{enter_plan, unregister_plan}
+use Rattle.seize.specs.Law.{Entered}
+use Rattle.seize.specs.Leave.{leave_plan}
+use Rattle.seize.specs.Register.{register_plan}
+use Rattle.seize.specs.Settle.{settle_plan}
+use Rattle.seize.specs.World.{MayStep, Rests, Row, Steps', World, with_at}
+use Rattle.seize.specs.World as world
+use Rattle.seize.specs.declared.rows.leave.Leave.{Leave}
+use Rattle.seize.specs.declared.rows.register.Register.{Register}
+use Rattle.seize.specs.declared.rows.settle.Settle.{Settle}
+use Rattle.seize.specs.declared.advance.Advance.{Advance}
+use Rattle.seize.specs.declared.advance.Advance.TheVariants as progress
+use Rattle.seize.specs.declared.rows.settle.Settled.{Settled}
+use Rattle.seize.specs.declared.rows.settle.Settled.TheVariants as settled
 use Rattle.seize_acts.specs.Acts.Acts.{row_steps}
 use Rattle.seize_acts.proofs.Acts.Answers.{was_stepped}
 use Rattle.seize_acts.specs.Acts.Answers.{Grant, stepped, then_on}

@@ -4,7 +4,7 @@ use Rattle.std.specs.Option.{is_none}
 use Rattle.std.proofs.Common.{◌≡◌, ℕ, Bool, true, false, inl, inr, refl, ap, subst, arith, ◌∙◌}
 use Rattle.std.proofs.lemmas.Bool.{cases_eq}
 use Rattle.std.proofs.lemmas.List.{get_or_past}
-use Rattle.map_tables.specs.Given.SeizeWorld.{Begins, Use, Inside, World, with_at}
+use Rattle.seize.specs.World.{Begins, Use, Inside, World, with_at}
 use Rattle.seize_acts.specs.Acts.Acts.{begun as row_begun, is_inside, is_outside, is_taken, is_within, rests}
 use Rattle.seize_acts.specs.Acts.Answers.{given}
 use Rattle.many_acts.specs.Given.CallersTogether.{MayWrite, IsWriter, UnderWay}

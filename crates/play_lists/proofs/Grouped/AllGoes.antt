@@ -8,12 +8,12 @@ use Rattle.seize_acts.proofs.Quiet.Slots.Stages.{never_taken}
 use Rattle.run_schedules.specs.Given.SeizeWordsMem.{Mem, Can, Took, value_at, word_at}
 use Rattle.run_schedules.specs.Given.SeizeWordsPlan.{May}
 use Rattle.run_schedules.specs.Given.SeizeWordsDeclared.at.At.TheVariants.{Slot}
-use Rattle.map_tables.specs.Given.SeizeReclaimAll.{clearing, reclaim_all_plan, reclaiming_all}
-use Rattle.map_tables.specs.Given.SeizeWorld.{Rests}
-use Rattle.map_tables.specs.Given.SeizeDeclared.rows.reclaim_all.ReclaimAll.{ReclaimAll}
-use Rattle.map_tables.specs.Given.SeizeDeclared.rows.settle.Settled.{Settled}
-use Rattle.map_tables.specs.Given.SeizeDeclared.rows.settle.Settled.TheVariants as settled
-use Rattle.map_tables.specs.Given.SeizeDeclared.states.TheConstants.{HEAD}
+use Rattle.seize.specs.ReclaimAll.{clearing, reclaim_all_plan, reclaiming_all}
+use Rattle.seize.specs.World.{Rests}
+use Rattle.seize.specs.declared.rows.reclaim_all.ReclaimAll.{ReclaimAll}
+use Rattle.seize.specs.declared.rows.settle.Settled.{Settled}
+use Rattle.seize.specs.declared.rows.settle.Settled.TheVariants as settled
+use Rattle.seize.specs.declared.states.TheConstants.{HEAD}
 use Rattle.map_tables.specs.Nodes.{deferred_word, was_left}
 use Rattle.map_tables.specs.declared.node.Node.{Node}
 use Rattle.run_kept.specs.Given.EffectsDeclared.changed.Changed.{Changed}

@@ -1,15 +1,15 @@
 -- What is done beside calls, in the midst of an event: the event goes on by its entry, or as it was where there is none, and callers are as they were played.
 use Rattle.std.specs.Prelude.{◌++◌, ◌==◌, ◌+◌, ◌≤◌, Option, if◌then◌else◌}
 use Rattle.std.proofs.Common.{◌≡◌, ℕ, Bool, true, false, List, refl, sym, ap, subst, ◌∙◌}
-use Rattle.map_tables.specs.Given.SeizeDeclared.advance.Advance.{Advance}
-use Rattle.map_tables.specs.Given.SeizeDeclared.advance.Advance.TheVariants as progress
-use Rattle.map_tables.specs.Given.SeizeDeclared.rows.leave.Leave.{Leave}
-use Rattle.map_tables.specs.Given.SeizeDeclared.rows.leave.Leaving.{Leaving}
-use Rattle.map_tables.specs.Given.SeizeDeclared.rows.leave.Leaving.TheVariants as leaves
-use Rattle.map_tables.specs.Given.SeizeDeclared.rows.register.Registering.{Registering}
-use Rattle.map_tables.specs.Given.SeizeDeclared.rows.register.Registering.TheVariants as registers
-use Rattle.map_tables.specs.Given.SeizeDeclared.rows.settle.Settled.{Settled}
-use Rattle.map_tables.specs.Given.SeizeDeclared.states.TheConstants.{ACTIVE}
+use Rattle.seize.specs.declared.advance.Advance.{Advance}
+use Rattle.seize.specs.declared.advance.Advance.TheVariants as progress
+use Rattle.seize.specs.declared.rows.leave.Leave.{Leave}
+use Rattle.seize.specs.declared.rows.leave.Leaving.{Leaving}
+use Rattle.seize.specs.declared.rows.leave.Leaving.TheVariants as leaves
+use Rattle.seize.specs.declared.rows.register.Registering.{Registering}
+use Rattle.seize.specs.declared.rows.register.Registering.TheVariants as registers
+use Rattle.seize.specs.declared.rows.settle.Settled.{Settled}
+use Rattle.seize.specs.declared.states.TheConstants.{ACTIVE}
 use Rattle.map_tables.specs.declared.setting.Setting.{Setting}
 use Rattle.run_finds.specs.Given.ResizeDeclared.new_map.NewMap.{NewMap}
 use Rattle.run_kept.specs.Given.EffectsDeclared.changed.Changed.{Changed}

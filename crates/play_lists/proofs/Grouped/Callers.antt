@@ -3,7 +3,7 @@ use Rattle.std.specs.Prelude.{◌≢◌, ◌⊎◌, ◌==◌, ◌≤◌, ◌+◌
 use Rattle.std.specs.List.{AllByRecursion, list_any, position_or_len, remove}
 use Rattle.std.proofs.Common.{◌≡◌, ℕ, Bool, true, false, List, [], ◌∷◌, inl, inr, refl, sym, ap, subst, arith, ◌∙◌}
 use Rattle.std.proofs.lemmas.Bool.{cases_eq, eq-eqb}
-use Rattle.map_tables.specs.Given.SeizeWorld.{with_at}
+use Rattle.seize.specs.World.{with_at}
 use Rattle.many_acts.specs.Given.FinishesMaps.{with_call}
 use Rattle.many_acts.proofs.Given.CallersTogether.At.{at_other, at_same}
 use Rattle.run_finds.proofs.Given.General.{all_so as each_so, same_some}

@@ -3,7 +3,7 @@ use Rattle.std.specs.Prelude.{◌++◌, Some, None, option_map, if◌then◌else
 use Rattle.std.proofs.Common.{◌≡◌, ℕ, Bool, true, false, List, refl, sym, ap, subst, ◌∙◌}
 use Rattle.seize_acts.specs.Acts.Answers.{Grant}
 use Rattle.run_schedules.specs.Given.SeizeWordsMem.{Mem}
-use Rattle.map_tables.specs.Given.SeizeDeclared.rows.settle.Settled.{Settled}
+use Rattle.seize.specs.declared.rows.settle.Settled.{Settled}
 use Rattle.map_tables.specs.declared.node.Node.{Node}
 use Rattle.run_schedules.specs.Given.RawEndMap.{end_map_plan, ending}
 use Rattle.run_finds.specs.Given.RawDeclared.machines.end_map.EndMap.{EndMap}

@@ -3,7 +3,7 @@ use Rattle.std.specs.Prelude.{◌≡◌, ◌<◌, ◌≤◌, ◌-◌, ◌==◌, 
 use Rattle.std.proofs.Common.{refl, ap, sym, subst, ◌∙◌, arith, inl, inr}
 use Rattle.std.proofs.lemmas.Bool.{and_parts, cases_order, eq-eqb, leb-true}
 use Rattle.std.proofs.lemmas.List.Elements.{filter-append}
-use Rattle.map_tables.specs.Given.SeizeWorld.{times}
+use Rattle.seize.specs.World.{times}
 use Rattle.map_tables.specs.Chunks.{is_incremental}
 use Rattle.run_finds.specs.Given.RuleChart.{Chart}
 use Rattle.many_acts.specs.Given.FinishesEndings.{AllPairsOnce}

@@ -2,7 +2,7 @@
 use Rattle.std.specs.Prelude.{◌≡◌, ◌<◌, ◌++◌, ℕ, Bool, true, false, List, [], ◌∷◌, Some, None}
 use Rattle.std.specs.List.{AllByRecursion}
 use Rattle.std.proofs.Common.{refl, ap, sym, subst, ◌∙◌}
-use Rattle.map_tables.specs.Given.SeizeWorld.{times}
+use Rattle.seize.specs.World.{times}
 use Rattle.many_acts.proofs.Given.FinishesEnds.CountedBlocks.{some_here, some_last}
 use Rattle.many_acts.specs.Given.FinishesEndings.{Finishing}
 use Rattle.run_schedules.specs.declared.effect.Effect.{Effect}

@@ -2,7 +2,7 @@
 use Rattle.std.specs.Prelude.{◌≡◌, ◌<◌, ◌⊎◌, ◌==◌, ◌++◌, ℕ, Bool, true, false, not, cond, List, [], ◌∷◌, filter, if◌then◌else◌}
 use Rattle.std.specs.List.{AllByRecursion}
 use Rattle.std.proofs.Common.{refl, ap, sym, subst, inl, inr, eqb-true}
-use Rattle.map_tables.specs.Given.SeizeWorld.{times}
+use Rattle.seize.specs.World.{times}
 use Rattle.many_acts.proofs.Given.FinishesEnds.CountedBlocks.{some_here, some_last}
 use Rattle.run_schedules.specs.declared.effect.Effect.{Effect}
 use Rattle.run_schedules.specs.declared.effect.Effect.TheVariants.{Ended, Taken}

@@ -2,7 +2,7 @@
 use Rattle.std.specs.Prelude.{◌≢◌, ◌⊎◌, Option, Some, None, option_map}
 use Rattle.std.proofs.Common.{◌≡◌, ℕ, inl, inr, refl, ap, sym, ◌∙◌}
 use Rattle.std.proofs.lemmas.Bool.{cases_eq}
-use Rattle.map_tables.specs.Given.SeizeWorld.{Rests, with_at}
+use Rattle.seize.specs.World.{Rests, with_at}
 use Rattle.many_acts.proofs.Given.CallersTogether.At.{at_same, at_other}
 use Rattle.many_acts.specs.Given.FinishesMaps.{with_call}
 use Rattle.many_acts.proofs.Given.ScenesRows.{never_rests}

@@ -4,11 +4,11 @@ use Rattle.std.specs.Option.{is_none}
 use Rattle.std.proofs.Common.{◌≡◌, ℕ, Bool, true, List, [], ◌∷◌, refl, ap, sym, subst, ◌∙◌}
 use Rattle.run_schedules.specs.Given.SeizeWordsMem.{Mem}
 use Rattle.run_schedules.specs.Given.SeizeWordsPlan.{Plan}
-use Rattle.map_tables.specs.Given.SeizeReclaimAll.{clearing, reclaim_all_plan, reclaiming_all}
-use Rattle.map_tables.specs.Given.SeizeWorld.{Rests}
-use Rattle.map_tables.specs.Given.SeizeDeclared.rows.reclaim_all.ReclaimAll.{ReclaimAll}
-use Rattle.map_tables.specs.Given.SeizeDeclared.rows.settle.Settled.{Settled}
-use Rattle.map_tables.specs.Given.SeizeDeclared.rows.settle.Settled.TheVariants as settled
+use Rattle.seize.specs.ReclaimAll.{clearing, reclaim_all_plan, reclaiming_all}
+use Rattle.seize.specs.World.{Rests}
+use Rattle.seize.specs.declared.rows.reclaim_all.ReclaimAll.{ReclaimAll}
+use Rattle.seize.specs.declared.rows.settle.Settled.{Settled}
+use Rattle.seize.specs.declared.rows.settle.Settled.TheVariants as settled
 use Rattle.seize_acts.specs.Acts.Answers.{Grant, stepped, then_on}
 use Rattle.seize_acts.proofs.Acts.Begun.{rests_is}
 use Rattle.map_tables.specs.Nodes.{deferred_word, was_left}

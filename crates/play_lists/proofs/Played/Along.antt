@@ -1,10 +1,10 @@
 -- What is so at first, and after each kind of act, is so wherever a list of acts has led that is played: by this what is promised of steps is had of lists.
 use Rattle.std.specs.Prelude.{◌<◌, ◌^◌, Option, Some, None}
 use Rattle.std.proofs.Common.{◌≡◌, ℕ, Bool, List, [], ◌∷◌, inl, inr, refl, ap, sym, subst, ◌∙◌}
-use Rattle.map_tables.specs.Given.SeizeReclaimAll.{clearing, reclaim_all_plan, reclaiming_all}
-use Rattle.map_tables.specs.Given.SeizeDeclared.rows.reclaim_all.ReclaimAll.{ReclaimAll}
-use Rattle.map_tables.specs.Given.SeizeDeclared.rows.settle.Settled.{Settled}
-use Rattle.map_tables.specs.Given.SeizeDeclared.rows.settle.Settled.TheVariants as settled
+use Rattle.seize.specs.ReclaimAll.{clearing, reclaim_all_plan, reclaiming_all}
+use Rattle.seize.specs.declared.rows.reclaim_all.ReclaimAll.{ReclaimAll}
+use Rattle.seize.specs.declared.rows.settle.Settled.{Settled}
+use Rattle.seize.specs.declared.rows.settle.Settled.TheVariants as settled
 use Rattle.seize_acts.specs.Acts.Answers.{Grant, then_on}
 use Rattle.map_tables.specs.Nodes.{deferred_word, was_left}
 use Rattle.map_tables.specs.declared.node.Node.{Node}

@@ -5,7 +5,7 @@ use Rattle.std.proofs.Common.{◌≡◌, ℕ, Bool, true, false, [], ◌∷◌, 
 use Rattle.std.proofs.lemmas.Bool.{cases_eq}
 use Rattle.run_schedules.specs.Given.SeizeWordsMem.{Mem}
 use Rattle.run_schedules.specs.Given.SeizeWordsPlan.{Plan}
-use Rattle.map_tables.specs.Given.SeizeWorld.{World, Rests, with_at}
+use Rattle.seize.specs.World.{World, Rests, with_at}
 use Rattle.seize_acts.specs.Acts.Answers.{Grant, stepped, then_on}
 use Rattle.seize_acts.proofs.Acts.Begun.{rests_is}
 use Rattle.map_tables.specs.declared.node.Node.{Node}

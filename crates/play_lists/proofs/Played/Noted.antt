@@ -2,19 +2,19 @@
 use Rattle.std.specs.Prelude.{◌≢◌, ◌⊎◌, ◌+◌, ◌==◌, cond, not, ◌&&◌, find, map, Option, Some, None, option_map, is_ok, length, if◌then◌else◌}
 use Rattle.std.proofs.Common.{◌≡◌, ℕ, Bool, true, false, List, [], ◌∷◌, inl, inr, refl, ap, sym, subst, ◌∙◌, arith}
 use Rattle.std.proofs.lemmas.Bool.{cases_eq}
-use Rattle.map_tables.specs.Given.SeizeDeclared.advance.Advance.{Advance}
-use Rattle.map_tables.specs.Given.SeizeDeclared.advance.Advance.TheVariants as progress
-use Rattle.map_tables.specs.Given.SeizeDeclared.rows.leave.Leave.{Leave}
-use Rattle.map_tables.specs.Given.SeizeDeclared.rows.leave.Leaving.{Leaving}
-use Rattle.map_tables.specs.Given.SeizeDeclared.rows.leave.Leaving.TheVariants as leaves
-use Rattle.map_tables.specs.Given.SeizeDeclared.rows.register.Registering.{Registering}
-use Rattle.map_tables.specs.Given.SeizeDeclared.rows.register.Registering.TheVariants as registers
-use Rattle.map_tables.specs.Given.SeizeDeclared.rows.settle.Settled.{Settled}
-use Rattle.map_tables.specs.Given.SeizeDeclared.states.TheConstants.{ACTIVE}
+use Rattle.seize.specs.declared.advance.Advance.{Advance}
+use Rattle.seize.specs.declared.advance.Advance.TheVariants as progress
+use Rattle.seize.specs.declared.rows.leave.Leave.{Leave}
+use Rattle.seize.specs.declared.rows.leave.Leaving.{Leaving}
+use Rattle.seize.specs.declared.rows.leave.Leaving.TheVariants as leaves
+use Rattle.seize.specs.declared.rows.register.Registering.{Registering}
+use Rattle.seize.specs.declared.rows.register.Registering.TheVariants as registers
+use Rattle.seize.specs.declared.rows.settle.Settled.{Settled}
+use Rattle.seize.specs.declared.states.TheConstants.{ACTIVE}
 use Rattle.map_tables.specs.declared.node.Node.{Node}
 use Rattle.map_tables.specs.declared.setting.Setting.{Setting}
 use Rattle.run_finds.specs.Given.ResizeDeclared.new_map.NewMap.{NewMap}
-use Rattle.map_tables.specs.Given.SeizeReclaimAll.{reclaim_all_plan}
+use Rattle.seize.specs.ReclaimAll.{reclaim_all_plan}
 use Rattle.map_tables.specs.Nodes.{deferred_word, was_left}
 use Rattle.run_kept.specs.Given.ResizeNewMap.{new_map_plan}
 use Rattle.run_schedules.specs.Given.RawEndMap.{end_map_plan}
@@ -23,7 +23,7 @@ use Rattle.run_finds.specs.Given.RawDeclared.machines.progress.Progress.{Progres
 use Rattle.run_finds.specs.Given.RawDeclared.machines.progress.Progress.TheVariants as comes
 use Rattle.many_acts.specs.Given.FinishesMaps.{with_call}
 use Rattle.many_acts.proofs.Given.CallersTogether.At.{at_other}
-use Rattle.map_tables.specs.Given.SeizeWorld.{with_at}
+use Rattle.seize.specs.World.{with_at}
 use Rattle.many_acts.specs.Given.FinishesMachines.{machine_of}
 use Rattle.many_acts.proofs.Given.ScenesNoCall.{none_is}
 use Rattle.many_acts.specs.Given.ScenesReplying.{unless_stopped}

@@ -1,7 +1,7 @@
 -- What an act comes to that could be played: by what was there, and by what its step came to.
 use Rattle.std.specs.Prelude.{Option, Some, None, option_map}
 use Rattle.std.proofs.Common.{◌≡◌, ℕ, Bool, refl, sym}
-use Rattle.map_tables.specs.Given.SeizeReclaimAll.{reclaim_all_plan}
+use Rattle.seize.specs.ReclaimAll.{reclaim_all_plan}
 use Rattle.seize_acts.specs.Acts.Answers.{Grant, stepped, then_on}
 use Rattle.seize_acts.proofs.Acts.Answers.{some}
 use Rattle.map_tables.specs.Nodes.{deferred_word, was_left}

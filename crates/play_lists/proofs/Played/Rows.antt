@@ -6,22 +6,22 @@ use Rattle.run_schedules.specs.Given.SeizeWordsMem.{Mem, after}
 use Rattle.run_schedules.specs.Given.SeizeWordsOp.{Op, Store}
 use Rattle.run_schedules.specs.Given.SeizeWordsPlan.{Plan}
 use Rattle.run_schedules.specs.Given.SeizeWordsDeclared.at.At.TheVariants.{Slot}
-use Rattle.map_tables.specs.Given.SeizeEnter.{enter_plan, unregister_plan}
-use Rattle.map_tables.specs.Given.SeizeLaw.{Entered}
-use Rattle.map_tables.specs.Given.SeizeLeave.{leave_plan}
-use Rattle.map_tables.specs.Given.SeizeRegister.{register_plan}
-use Rattle.map_tables.specs.Given.SeizeSettle.{settle_plan}
-use Rattle.map_tables.specs.Given.SeizeWorld.{World, Row, Rests, Inside, Vacant, Request, Begins, after_step, registers_on, settles_on, leaves_on, with_at, with_use}
-use Rattle.map_tables.specs.Given.SeizeDeclared.advance.Advance.{Advance}
-use Rattle.map_tables.specs.Given.SeizeDeclared.advance.Advance.TheVariants as progress
-use Rattle.map_tables.specs.Given.SeizeDeclared.rows.enter.Enter.{Enter}
-use Rattle.map_tables.specs.Given.SeizeDeclared.rows.enter.Unregister.{Unregister}
-use Rattle.map_tables.specs.Given.SeizeDeclared.rows.leave.Leave.{Leave}
-use Rattle.map_tables.specs.Given.SeizeDeclared.rows.register.Register.{Register}
-use Rattle.map_tables.specs.Given.SeizeDeclared.rows.settle.Settle.{Settle}
-use Rattle.map_tables.specs.Given.SeizeDeclared.rows.settle.Settled.{Settled}
-use Rattle.map_tables.specs.Given.SeizeDeclared.rows.settle.Settled.TheVariants as settled
-use Rattle.map_tables.specs.Given.SeizeDeclared.states.TheConstants.{ACTIVE, FREE, HEAD}
+use Rattle.seize.specs.Enter.{enter_plan, unregister_plan}
+use Rattle.seize.specs.Law.{Entered}
+use Rattle.seize.specs.Leave.{leave_plan}
+use Rattle.seize.specs.Register.{register_plan}
+use Rattle.seize.specs.Settle.{settle_plan}
+use Rattle.seize.specs.World.{World, Row, Rests, Inside, Vacant, Request, Begins, after_step, registers_on, settles_on, leaves_on, with_at, with_use}
+use Rattle.seize.specs.declared.advance.Advance.{Advance}
+use Rattle.seize.specs.declared.advance.Advance.TheVariants as progress
+use Rattle.seize.specs.declared.rows.enter.Enter.{Enter}
+use Rattle.seize.specs.declared.rows.enter.Unregister.{Unregister}
+use Rattle.seize.specs.declared.rows.leave.Leave.{Leave}
+use Rattle.seize.specs.declared.rows.register.Register.{Register}
+use Rattle.seize.specs.declared.rows.settle.Settle.{Settle}
+use Rattle.seize.specs.declared.rows.settle.Settled.{Settled}
+use Rattle.seize.specs.declared.rows.settle.Settled.TheVariants as settled
+use Rattle.seize.specs.declared.states.TheConstants.{ACTIVE, FREE, HEAD}
 use Rattle.seize_acts.specs.Acts.Acts.{row_steps}
 use Rattle.seize_acts.specs.Acts.Answers.{Grant, answer, stepped, then_on}
 use Rattle.seize_acts.proofs.Acts.Answers.{some}

@@ -4,9 +4,9 @@ use Rattle.std.specs.Option.{option_map_or}
 use Rattle.std.proofs.Common.{◌≡◌, ℕ, Bool, ap, sym, ◌∙◌}
 use Rattle.run_schedules.specs.Given.SeizeWordsMem.{Mem}
 use Rattle.run_schedules.specs.Given.SeizeWordsPlan.{Plan}
-use Rattle.map_tables.specs.Given.SeizeWorld.{Row}
-use Rattle.map_tables.specs.Given.SeizeDeclared.advance.Advance.{Advance as Making'}
-use Rattle.map_tables.specs.Given.SeizeDeclared.rows.settle.Settled.{Settled}
+use Rattle.seize.specs.World.{Row}
+use Rattle.seize.specs.declared.advance.Advance.{Advance as Making'}
+use Rattle.seize.specs.declared.rows.settle.Settled.{Settled}
 use Rattle.map_tables.specs.declared.node.Node.{Node}
 use Rattle.map_tables.specs.declared.setting.Setting.{Setting}
 use Rattle.run_kept.specs.Given.ResizeNewMap.{new_map_plan}

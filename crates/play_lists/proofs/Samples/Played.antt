@@ -3,7 +3,7 @@ mod Removal
 mod Ending
 use Rattle.std.specs.Prelude.{nat_eq, ◌++◌, option_map}
 use Rattle.std.proofs.Common.{◌≡◌, ℕ, true, false, List, [], ◌∷◌, refl, Option, Some, None}
-use Rattle.map_tables.specs.Given.SeizeWorld.{Register'}
+use Rattle.seize.specs.World.{Register'}
 use Rattle.map_tables.specs.declared.resize_mode.ResizeMode.TheVariants as mode
 use Rattle.map_tables.specs.declared.setting.Setting.{Setting}
 use Rattle.run_schedules.specs.declared.call.Response.TheVariants as answer

@@ -1,9 +1,9 @@
 -- The guards of a history are the slots within sections: each by its slot's name.
 use Rattle.std.specs.Prelude.{◌≡◌, ◌⊎◌, ℕ, false, List, Option, Some, None}
 use Rattle.std.specs.List.{AllByRecursion}
-use Rattle.map_tables.specs.Given.SeizeWorld.{IsInside, Use}
-use Rattle.map_tables.specs.Given.SeizeDeclared.rows.leave.Leave.{Leave}
-use Rattle.map_tables.specs.Given.SeizeDeclared.rows.leave.Leaving.TheVariants as leaves
+use Rattle.seize.specs.World.{IsInside, Use}
+use Rattle.seize.specs.declared.rows.leave.Leave.{Leave}
+use Rattle.seize.specs.declared.rows.leave.Leaving.TheVariants as leaves
 use Rattle.many_acts.specs.Given.ScenesScene.{slot_of}
 use Rattle.many_acts.specs.Given.ScenesDeclared.row.SlotRow.{SlotRow}
 use Rattle.many_acts.specs.Given.ScenesDeclared.row.SlotRow.TheVariants as rows

@@ -1,19 +1,19 @@
 -- What an executor does, it does by acts: where it is, its acts have led. All its maps have its hasher.
 use Rattle.std.specs.Prelude.{◌≡◌, ℕ, ◌+◌, ◌<◌, ◌≤◌, ◌^◌, length, max, Bool, None, Some, Result}
 use Rattle.std.specs.Int.{IsPowerOfTwo}
-use Rattle.map_tables.specs.Given.SeizeDeclared.advance.Advance.{Advance}
-use Rattle.map_tables.specs.Given.SeizeDeclared.rows.settle.Settled.{Settled}
+use Rattle.seize.specs.declared.advance.Advance.{Advance}
+use Rattle.seize.specs.declared.rows.settle.Settled.{Settled}
 use Rattle.seize_acts.specs.Acts.Answers.{Grant, stepped}
 use Rattle.run_schedules.specs.Given.SeizeWordsPlan.{Plan}
-use Rattle.map_tables.specs.Given.SeizeEnter.{enter_plan, unregister_plan}
-use Rattle.map_tables.specs.Given.SeizeLeave.{leave_plan}
-use Rattle.map_tables.specs.Given.SeizeRegister.{register_plan}
-use Rattle.map_tables.specs.Given.SeizeSettle.{settle_plan}
-use Rattle.map_tables.specs.Given.SeizeDeclared.rows.enter.Enter.{Enter}
-use Rattle.map_tables.specs.Given.SeizeDeclared.rows.enter.Unregister.{Unregister}
-use Rattle.map_tables.specs.Given.SeizeDeclared.rows.leave.Leave.{Leave}
-use Rattle.map_tables.specs.Given.SeizeDeclared.rows.register.Register.{Register}
-use Rattle.map_tables.specs.Given.SeizeDeclared.rows.settle.Settle.{Settle}
+use Rattle.seize.specs.Enter.{enter_plan, unregister_plan}
+use Rattle.seize.specs.Leave.{leave_plan}
+use Rattle.seize.specs.Register.{register_plan}
+use Rattle.seize.specs.Settle.{settle_plan}
+use Rattle.seize.specs.declared.rows.enter.Enter.{Enter}
+use Rattle.seize.specs.declared.rows.enter.Unregister.{Unregister}
+use Rattle.seize.specs.declared.rows.leave.Leave.{Leave}
+use Rattle.seize.specs.declared.rows.register.Register.{Register}
+use Rattle.seize.specs.declared.rows.settle.Settle.{Settle}
 use Rattle.map_tables.specs.Nodes.{deferred_word}
 use Rattle.run_kept.specs.Given.ResizeNewMap.{new_map_plan}
 use Rattle.run_schedules.specs.Given.RawEndMap.{end_map_plan}

@@ -8,8 +8,8 @@ use Rattle.many_acts.specs.Given.CallersTogether.{UnderWay}
 use Rattle.many_acts.specs.Given.FinishesMachines.{machine_of}
 use Rattle.many_acts.specs.Given.FinishesMakings.{Beginning}
 use Rattle.run_finds.specs.Given.ResizeDeclared.new_map.NewMap.{NewMap}
-use Rattle.map_tables.specs.Given.SeizeWorld.{Row, Rests}
-use Rattle.map_tables.specs.Given.SeizeDeclared.rows.reclaim_all.ReclaimAll.{ReclaimAll}
+use Rattle.seize.specs.World.{Row, Rests}
+use Rattle.seize.specs.declared.rows.reclaim_all.ReclaimAll.{ReclaimAll}
 use Rattle.map_tables.specs.declared.setting.Setting.{Setting}
 use Rattle.many_acts.specs.Given.ScenesRows.{request_of}
 use Rattle.many_acts.specs.Given.ScenesScene.{HasNoCall, Scene, row_of, slot_of}

@@ -22,7 +22,7 @@ use Rattle.run_schedules.specs.Schedules.Entry.{Entry, acted_on, acting, caller_
 use Rattle.run_schedules.specs.Schedules.Moment.{UnderWay, Moment}
 use Rattle.run_schedules.specs.Schedules.Views.{number_of}
 use Rattle.run_effects.specs.Tallies.Told.{AreBack}
-use Rattle.seize_words.proofs.General.{all_append as joined}
+use Rattle.run_schedules.proofs.Given.General.{all_append as joined}
 
 module _ {K V : Type 0} where
   -- a pair that was stored stays what it is as further ones are

@@ -27,7 +27,7 @@ use Rattle.run_schedules.specs.Schedules.Moment as at
 use Rattle.run_schedules.specs.Schedules.Runs.{Lists, pair_of}
 use Rattle.run_schedules.specs.Schedules.Views.{is_in_a_map, is_waiting, number_of}
 use Rattle.run_effects.specs.Tallies.Told.{AreBack, ArePlaced}
-use Rattle.seize_words.proofs.General.{all_append as joined}
+use Rattle.run_schedules.proofs.Given.General.{all_append as joined}
 
 -- a pair that is placed as given back was given back
 abbrev pub BackIsTold : (ℕ → Place) → List ℕ → Type 0

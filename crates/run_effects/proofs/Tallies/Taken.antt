@@ -3,17 +3,17 @@ use Rattle.std.specs.Prelude.{◌≡◌, ◌≢◌, ◌+◌, ℕ, suc, Bool, Lis
 use Rattle.std.proofs.Common.{refl, sym, ap, ◌∙◌, arith}
 use Rattle.std.proofs.lemmas.Bool.{ne_eqb}
 use Rattle.std.proofs.lemmas.List.{append-nil}
-use Rattle.seize_words.specs.declared.block.Block.{Block}
-use Rattle.seize_words.specs.OneMemory.Mem.{Mem, Took, block_of, value_at, value_in, with_block}
-use Rattle.seize_words.specs.OneMemory.Op.{Take, Taken}
-use Rattle.seize_words.proofs.OneMemory.OneOwner.AfterWrites.{block_of-with_block}
-use Rattle.map_tables.specs.declared.node.Node.{Node}
-use Rattle.map_tables.specs.declared.node.Node.TheVariants as node
+use Rattle.run_schedules.specs.Given.SeizeWordsDeclared.block.Block.{Block}
+use Rattle.run_schedules.specs.Given.SeizeWordsMem.{Mem, Took, block_of, value_at, value_in, with_block}
+use Rattle.run_schedules.specs.Given.SeizeWordsOp.{Take, Taken}
+use Rattle.run_schedules.proofs.Given.SeizeWordsOneOwner.AfterWrites.{block_of-with_block}
+use Rattle.run_schedules.specs.Given.TablesDeclared.node.Node.{Node}
+use Rattle.run_schedules.specs.Given.TablesDeclared.node.Node.TheVariants as node
 use Rattle.run_schedules.specs.declared.ended.Pair.{Pair}
 use Rattle.run_effects.specs.declared.role.Role.{Role}
 use Rattle.run_effects.specs.declared.role.Role.TheVariants as role
 use Rattle.run_effects.specs.Tallies.Left.{noted, noted_below}
-use Rattle.seize_words.proofs.General.{some_is}
+use Rattle.run_schedules.proofs.Given.General.{some_is}
 
 module _ {T : Type 0} (m : Mem T) (b : ℕ) where
   there : (o : Option (Block T)) → block_of m b ≡ o → IsSome (value_in o) → (x : Block T) × (block_of m b ≡ Some x)

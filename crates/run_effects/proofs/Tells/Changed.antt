@@ -1,12 +1,12 @@
 -- One word that an operation has changed, and what is seen of it.
 use Rattle.std.specs.Prelude.{◌≡◌, ◌≢◌, ℕ, ◌==◌, Bool, true, false, Option, Some, None, Ok, Err, IsSome, if◌then◌else◌}
 use Rattle.std.proofs.Common.{refl, ap, sym, subst, ◌∙◌, arith}
-use Rattle.seize_words.specs.declared.at.At.{At}
-use Rattle.seize_words.specs.declared.at.At.TheVariants.{Root, Used, Slot, Entry, Word}
-use Rattle.seize_words.specs.declared.block.Block.{Block}
-use Rattle.seize_words.specs.OneMemory.Mem.{Mem, same_at, block_of, word_in, word_at, value_in, value_at, with_word, with_block, fresh, IsFreeNumber, Can, after, Took}
-use Rattle.seize_words.specs.OneMemory.Op.{Op, Out, Load, Store, Swap, Add, Or, Exchange, Make, Take, Rewrite, Room, Found, Stored, Exchanged, Made, Taken, Roomed}
-use Rattle.seize_words.proofs.OneMemory.OneOwner.AfterWrites.{word_at-with_word, word_at-with_value, block_of-with_block, block_of-made}
+use Rattle.run_schedules.specs.Given.SeizeWordsDeclared.at.At.{At}
+use Rattle.run_schedules.specs.Given.SeizeWordsDeclared.at.At.TheVariants.{Root, Used, Slot, Entry, Word}
+use Rattle.run_schedules.specs.Given.SeizeWordsDeclared.block.Block.{Block}
+use Rattle.run_schedules.specs.Given.SeizeWordsMem.{Mem, same_at, block_of, word_in, word_at, value_in, value_at, with_word, with_block, fresh, IsFreeNumber, Can, after, Took}
+use Rattle.run_schedules.specs.Given.SeizeWordsOp.{Op, Out, Load, Store, Swap, Add, Or, Exchange, Make, Take, Rewrite, Room, Found, Stored, Exchanged, Made, Taken, Roomed}
+use Rattle.run_schedules.proofs.Given.SeizeWordsOneOwner.AfterWrites.{word_at-with_word, word_at-with_value, block_of-with_block, block_of-made}
 use Rattle.run_effects.specs.Tells.Seen.{Seen, Wrote, word_or, seen_of}
 use Rattle.map_rule.proofs.Given.SeizeMemoryWords.Named.{same_at-true as same_is, same_at-refl as is_same}
 

@@ -2,15 +2,15 @@
 use Rattle.std.specs.Prelude.{◌≡◌, ◌≢◌, ℕ, ◌+◌, ◌*◌, ◌<◌, ◌≤◌, ◌^◌, Bool, true, false, eqb, Some, ◌⊎◌}
 use Rattle.std.proofs.Common.{refl, ap, sym, subst, ◌∙◌, zero, suc, inl, inr, arith}
 use Rattle.std.proofs.lemmas.Bool.{cases_lt, lt-ltb, le-ltb}
-use Rattle.seize_words.specs.declared.at.At.{At}
-use Rattle.seize_words.specs.declared.at.At.TheVariants.{Root, Word}
-use Rattle.seize_words.specs.OneMemory.Mem.{Mem, word_at}
-use Rattle.seize_words.specs.OneMemory.Word.{block_in}
-use Rattle.map_tables.specs.Chunks.{is_incremental}
-use Rattle.map_tables.specs.declared.marks.TheConstants.{TOMBSTONE}
-use Rattle.map_tables.specs.declared.node.Node.{Node}
-use Rattle.map_tables.specs.declared.setting.Setting.{Setting}
-use Rattle.map_tables.specs.declared.table_words.TheConstants.{NEXT, PLACES}
+use Rattle.run_schedules.specs.Given.SeizeWordsDeclared.at.At.{At}
+use Rattle.run_schedules.specs.Given.SeizeWordsDeclared.at.At.TheVariants.{Root, Word}
+use Rattle.run_schedules.specs.Given.SeizeWordsMem.{Mem, word_at}
+use Rattle.run_schedules.specs.Given.SeizeWordsWord.{block_in}
+use Rattle.run_schedules.specs.Given.TablesChunks.{is_incremental}
+use Rattle.run_schedules.specs.Given.TablesDeclared.marks.TheConstants.{TOMBSTONE}
+use Rattle.run_schedules.specs.Given.TablesDeclared.node.Node.{Node}
+use Rattle.run_schedules.specs.Given.TablesDeclared.setting.Setting.{Setting}
+use Rattle.run_schedules.specs.Given.TablesDeclared.table_words.TheConstants.{NEXT, PLACES}
 use Rattle.map_rule.specs.Chart.{Phase, Still, Place, Empty, Tombstone, Holds, Chart}
 use Rattle.map_rule.specs.Moves.{Move, Links, Stores, Replaces, Removes, Marks, MarksBlocking, Skips, Unmarks, Puts, Covers, PutsLate, Claims, Reclaims, Counts, GivesUp, Aborts, Promotes, Announces, lent_place, Allowed, after}
 use Rattle.map_rule.specs.Rule.{IsLawful}

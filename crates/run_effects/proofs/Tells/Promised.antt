@@ -1,11 +1,11 @@
 -- The operation of a step tells which change of the map it made.
 use Rattle.std.specs.Prelude.{◌≡◌, ◌≢◌, ℕ, ◌<◌, ◌^◌, Bool, Some}
 use Rattle.std.proofs.Common.{subst, inl, inr}
-use Rattle.seize_words.specs.declared.at.At.{At}
-use Rattle.seize_words.specs.OneMemory.Mem.{Mem, word_at}
+use Rattle.run_schedules.specs.Given.SeizeWordsDeclared.at.At.{At}
+use Rattle.run_schedules.specs.Given.SeizeWordsMem.{Mem, word_at}
 use Rattle.seize.specs.World.{World}
-use Rattle.map_tables.specs.declared.node.Node.{Node}
-use Rattle.map_tables.specs.declared.setting.Setting.{Setting}
+use Rattle.run_schedules.specs.Given.TablesDeclared.node.Node.{Node}
+use Rattle.run_schedules.specs.Given.TablesDeclared.setting.Setting.{Setting}
 use Rattle.map_rule.specs.Chart.{Chart}
 use Rattle.map_rule.specs.Rule.{IsLawful}
 use Rattle.map_rule.specs.Words.{Blocks}

@@ -2,13 +2,13 @@
 use Rattle.std.specs.Prelude.{◌≡◌, ℕ, ◌+◌, ◌<◌, ◌≤◌, ◌^◌, Bool, true, Option, Some, None, ◌⊎◌}
 use Rattle.std.proofs.Common.{refl, ap, sym, subst, ◌∙◌, zero, suc, inl, inr, arith}
 use Rattle.std.proofs.lemmas.Bool.{cases_lt, le-ltb}
-use Rattle.seize_words.specs.declared.at.At.{At}
-use Rattle.seize_words.specs.declared.at.At.TheVariants.{Root, Used, Slot, Entry, Word}
-use Rattle.seize_words.specs.OneMemory.Mem.{Mem, word_at}
-use Rattle.seize_words.specs.OneMemory.Word.{block_in}
-use Rattle.map_tables.specs.declared.node.Node.{Node}
-use Rattle.map_tables.specs.declared.setting.Setting.{Setting}
-use Rattle.map_tables.specs.declared.table_words.TheConstants.{NEXT, PLACES}
+use Rattle.run_schedules.specs.Given.SeizeWordsDeclared.at.At.{At}
+use Rattle.run_schedules.specs.Given.SeizeWordsDeclared.at.At.TheVariants.{Root, Used, Slot, Entry, Word}
+use Rattle.run_schedules.specs.Given.SeizeWordsMem.{Mem, word_at}
+use Rattle.run_schedules.specs.Given.SeizeWordsWord.{block_in}
+use Rattle.run_schedules.specs.Given.TablesDeclared.node.Node.{Node}
+use Rattle.run_schedules.specs.Given.TablesDeclared.setting.Setting.{Setting}
+use Rattle.run_schedules.specs.Given.TablesDeclared.table_words.TheConstants.{NEXT, PLACES}
 use Rattle.map_rule.specs.Chart.{Place, Empty, Tombstone, Holds, Chart}
 use Rattle.map_rule.specs.Words.{Blocks, byte_of, place_word, next_word, root_word, Represents}
 use Rattle.map_rule.specs.Maps.{IsMap}

@@ -2,9 +2,9 @@
 use Rattle.std.specs.Prelude.{◌==◌, Bool, true, false, ◌&&◌, ◌||◌, List, [], ◌∷◌}
 use Rattle.std.specs.Bool.{beq}
 use Rattle.std.specs.Option.{option_eq}
-use Rattle.seize_words.specs.OneMemory.Fault.{number_of}
-use Rattle.map_tables.specs.declared.resize_mode.ResizeMode.{ResizeMode}
-use Rattle.map_tables.specs.declared.resize_mode.ResizeMode.TheVariants.{Incremental, Blocking}
+use Rattle.run_schedules.specs.Given.SeizeWordsFault.{number_of}
+use Rattle.run_schedules.specs.Given.TablesDeclared.resize_mode.ResizeMode.{ResizeMode}
+use Rattle.run_schedules.specs.Given.TablesDeclared.resize_mode.ResizeMode.TheVariants.{Incremental, Blocking}
 use Rattle.run_schedules.specs.Runs.Same.{is_same}
 use Rattle.run_schedules.specs.declared.setup.Setup.{Setup}
 use Rattle.run_schedules.specs.declared.key_hash.KeyHash.{KeyHash}

@@ -1,10 +1,10 @@
 -- What an operation does to pairs and tables: its effects, by what it has changed, by what the blocks were before, and by who made it.
 use Rattle.std.specs.Prelude.{ℕ, ◌+◌, ◌-◌, ◌==◌, ◌<◌, ◌^◌, ◌&&◌, nat_le, nat_lt, Bool, true, List, [], ◌∷◌, if◌then◌else◌}
-use Rattle.seize_words.specs.declared.at.At.{At}
-use Rattle.seize_words.specs.declared.at.At.TheVariants.{Root, Entry, Word}
-use Rattle.seize_words.specs.OneMemory.Word.{block_in}
+use Rattle.run_schedules.specs.Given.SeizeWordsDeclared.at.At.{At}
+use Rattle.run_schedules.specs.Given.SeizeWordsDeclared.at.At.TheVariants.{Root, Entry, Word}
+use Rattle.run_schedules.specs.Given.SeizeWordsWord.{block_in}
 use Rattle.seize.specs.declared.states.TheConstants.{FIRST}
-use Rattle.map_tables.specs.declared.table_words.TheConstants.{NEXT, DEFERRED, PLACES}
+use Rattle.run_schedules.specs.Given.TablesDeclared.table_words.TheConstants.{NEXT, DEFERRED, PLACES}
 use Rattle.run_schedules.specs.declared.effect.Effect.{Effect}
 use Rattle.run_schedules.specs.declared.effect.Effect.TheVariants as effect
 use Rattle.run_schedules.specs.declared.effect.Growth.TheVariants.{ABlock, ABucket}

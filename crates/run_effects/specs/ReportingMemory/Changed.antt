@@ -1,8 +1,8 @@
 -- What a memory that tells makes of an operation, and what it then tells.
 use Rattle.std.specs.Prelude.{◌≡◌, Bool, ◌+◌, ◌^◌, ◌%◌, ◌==◌, if◌then◌else◌, true, false, bit_or, Ok, Err}
-use Rattle.seize_words.specs.OneMemory.Op.{Op, Out, Store, Swap, Add, Or, Exchange, Make, Take, Room, Found, Stored, Exchanged, Made, Roomed}
-use Rattle.map_tables.specs.declared.node.Node.{Node}
-use Rattle.map_tables.specs.declared.node.Node.TheVariants as node
+use Rattle.run_schedules.specs.Given.SeizeWordsOp.{Op, Out, Store, Swap, Add, Or, Exchange, Make, Take, Room, Found, Stored, Exchanged, Made, Roomed}
+use Rattle.run_schedules.specs.Given.TablesDeclared.node.Node.{Node}
+use Rattle.run_schedules.specs.Given.TablesDeclared.node.Node.TheVariants as node
 use Rattle.run_effects.specs.declared.changed.Kind.{Kind}
 use Rattle.run_effects.specs.declared.changed.Kind.TheVariants as kind
 use Rattle.run_effects.specs.declared.changed.Changed.{Changed}

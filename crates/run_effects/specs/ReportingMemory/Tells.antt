@@ -1,9 +1,9 @@
 -- What a memory of one owner tells of a step that is taken in it.
 use Rattle.std.specs.Prelude.{◌≡◌, true, false, is_ok}
-use Rattle.seize_words.specs.OneMemory.Mem.{Mem, Can, Took, value_at}
-use Rattle.seize_words.specs.OneMemory.Op.{Op, Out, Room, Roomed}
-use Rattle.seize_words.specs.OneMemory.Plan.{Plan, Turn, Do, May, Steps, Ends}
-use Rattle.map_tables.specs.declared.node.Node.{Node}
+use Rattle.run_schedules.specs.Given.SeizeWordsMem.{Mem, Can, Took, value_at}
+use Rattle.run_schedules.specs.Given.SeizeWordsOp.{Op, Out, Room, Roomed}
+use Rattle.run_schedules.specs.Given.SeizeWordsPlan.{Plan, Turn, Do, May, Steps, Ends}
+use Rattle.run_schedules.specs.Given.TablesDeclared.node.Node.{Node}
 use Rattle.run_effects.specs.Tells.Seen.{Seen, Unseen, Wrote, MadeOne, HadNoRoom, TookAway, NewValue, seen_of}
 use Rattle.run_effects.specs.declared.changed.Changed.{Changed}
 use Rattle.run_effects.specs.declared.changed.Changed.TheVariants as changed

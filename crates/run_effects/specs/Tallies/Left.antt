@@ -1,7 +1,7 @@
 -- The pairs that are left in a memory, by what is noted of its blocks.
 use Rattle.std.specs.Prelude.{◌≡◌, ℕ, zero, suc, List, [], ◌∷◌, ◌++◌, Option, Some}
-use Rattle.map_tables.specs.declared.node.Node.{Node}
-use Rattle.map_tables.specs.declared.node.Node.TheVariants as node
+use Rattle.run_schedules.specs.Given.TablesDeclared.node.Node.{Node}
+use Rattle.run_schedules.specs.Given.TablesDeclared.node.Node.TheVariants as node
 use Rattle.run_schedules.specs.declared.ended.Pair.{Pair}
 use Rattle.run_effects.specs.declared.role.Role.{Role}
 use Rattle.run_effects.specs.declared.role.Role.TheVariants as role

@@ -1,8 +1,8 @@
 -- What one operation changes, as whoever makes it sees it.
 use Rattle.std.specs.Prelude.{ℕ, ◌+◌, ◌^◌, ◌%◌, bit_or, Ok, Err, Option, Some, None}
-use Rattle.seize_words.specs.declared.at.At.{At}
-use Rattle.seize_words.specs.OneMemory.Mem.{Mem, word_at}
-use Rattle.seize_words.specs.OneMemory.Op.{Op, Out, Store, Swap, Add, Or, Exchange, Make, Take, Rewrite, Found, Exchanged, Made}
+use Rattle.run_schedules.specs.Given.SeizeWordsDeclared.at.At.{At}
+use Rattle.run_schedules.specs.Given.SeizeWordsMem.{Mem, word_at}
+use Rattle.run_schedules.specs.Given.SeizeWordsOp.{Op, Out, Store, Swap, Add, Or, Exchange, Make, Take, Rewrite, Found, Exchanged, Made}
 
 pub data Seen (T : Type 0) : Type 0 where
   Unseen : Seen T  -- nothing: a load, an exchange that found another word, room for slots, or no operation

@@ -1,17 +1,17 @@
 -- What the one operation of a step tells of a map: which change of its tables it made.
 use Rattle.std.specs.Prelude.{◌≡◌, ℕ, ◌+◌, ◌*◌, ◌<◌, ◌^◌, Bool, true, false}
 use Rattle.std.proofs.Common.{zero, suc, inl, inr}
-use Rattle.seize_words.specs.declared.at.At.{At}
-use Rattle.seize_words.specs.declared.at.At.TheVariants.{Root, Word}
-use Rattle.seize_words.specs.OneMemory.Mem.{Mem, Can, Took}
-use Rattle.seize_words.specs.OneMemory.Op.{Op, Out}
-use Rattle.seize_words.specs.OneMemory.Word.{block_in}
+use Rattle.run_schedules.specs.Given.SeizeWordsDeclared.at.At.{At}
+use Rattle.run_schedules.specs.Given.SeizeWordsDeclared.at.At.TheVariants.{Root, Word}
+use Rattle.run_schedules.specs.Given.SeizeWordsMem.{Mem, Can, Took}
+use Rattle.run_schedules.specs.Given.SeizeWordsOp.{Op, Out}
+use Rattle.run_schedules.specs.Given.SeizeWordsWord.{block_in}
 use Rattle.seize.specs.World.{World}
-use Rattle.map_tables.specs.Chunks.{is_incremental}
-use Rattle.map_tables.specs.declared.node.Node.{Node}
-use Rattle.map_tables.specs.declared.setting.Setting.{Setting}
-use Rattle.map_tables.specs.declared.table_words.TheConstants.{NEXT, PLACES}
-use Rattle.map_tables.specs.declared.marks.TheConstants.{TOMBSTONE}
+use Rattle.run_schedules.specs.Given.TablesChunks.{is_incremental}
+use Rattle.run_schedules.specs.Given.TablesDeclared.node.Node.{Node}
+use Rattle.run_schedules.specs.Given.TablesDeclared.setting.Setting.{Setting}
+use Rattle.run_schedules.specs.Given.TablesDeclared.table_words.TheConstants.{NEXT, PLACES}
+use Rattle.run_schedules.specs.Given.TablesDeclared.marks.TheConstants.{TOMBSTONE}
 use Rattle.map_rule.specs.Chart.{Still, Copying, Holds, Chart}
 use Rattle.map_rule.specs.Moves.{Move, Links, Stores, Replaces, Removes, Puts, PutsLate, Promotes}
 use Rattle.map_rule.specs.Words.{Blocks, place_word}

@@ -6,9 +6,9 @@ ghost use Rattle.seize.specs.declared.states.TheConstants.{IDLE, ACTIVE};
 ghost use Rattle.seize.specs.Leave.{leaving, counted_down, standing, swaps, settled, frees, leave_plan};
 
 use crate::machine::StepMachine;
-use crate::rows::settle::{Defers, Settle, Settled};
+use crate::rows::settle::{Settle, Settled};
 use crate::states::{ACTIVE, FREE, HEAD, IDLE};
-use seize_words::{At, Memory};
+use seize_words::{At, Defers, Memory};
 
 /// Where a leaving stands.
 #[derive(Clone, Copy)]

@@ -5,24 +5,12 @@ ghost use Rattle.seize.specs.ReclaimAll.{reclaiming_all, clearing, first_root, n
 
 use crate::machine::StepMachine;
 use crate::rows::leave::Leave;
-use crate::rows::settle::{Defers, Settle, Settled};
+use crate::rows::settle::{Settle, Settled};
 use crate::states::LAST_SLOT;
-use seize_words::Memory;
+use seize_words::{Defers, LeftOver, Memory};
 
 mod roots;
 mod slots;
-
-/// A value that says whether a root that names its block holds what was left over there.
-pub trait LeftOver {
-    ghost use Rattle.std.specs.Prelude.{Bool};
-
-    /// A root that names its block names the first of a list of blocks that nobody can reach any longer.
-    ghost left_over: { Self → Bool };
-
-    /// Whether a root that names its block names such a list.
-    fn is_left_over(&self) -> bool
-        ensures { result ≡ left_over self.now };
-}
 
 /// What tells of a value whether a root that names its block holds what was left over there.
 pub trait Leftovers<T> {

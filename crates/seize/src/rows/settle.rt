@@ -4,23 +4,11 @@ ghost use Rattle.seize.specs.Settle.{resting, retiring, flushing, counting_down,
 
 use crate::machine::StepMachine;
 use crate::states::{ACTIVE, LAST_SLOT};
-use seize_words::Memory;
+use seize_words::{Defers, Memory};
 
 mod batch;
 mod reclaims;
 mod tries;
-
-/// A value whose block may hold further values, which are retired once it is reclaimed.
-pub trait Defers {
-    ghost use Rattle.std.specs.Prelude.{Option, ℕ};
-
-    /// The number of the word of its block that holds the head of the list of blocks to be retired then.
-    ghost defers: { Self → Option ℕ };
-
-    /// The number of that word, if its block has one.
-    fn deferred(&self) -> Option<u64>
-        ensures { result ≡ defers self.now };
-}
 
 /// Where a settling stands. A block is named by its link, 0 where there is none.
 #[derive(Clone, Copy)]

@@ -6,10 +6,10 @@ use Rattle.seize_words.specs.OneMemory.Op.{Found, Stored, Exchanged, Made, Taken
 use Rattle.seize_words.specs.OneMemory.Plan.{Plan, Steps}
 use Rattle.seize_words.specs.declared.fault.Fault.{Fault}
 use Rattle.seize_words.specs.declared.fault.Fault.TheVariants.{RemoveNothing}
-use Rattle.map_tables.specs.Given.SeizeDeclared.advance.Advance.{Advance}
-use Rattle.map_tables.specs.Given.SeizeDeclared.advance.Advance.TheVariants as progress
-use Rattle.map_tables.specs.Given.SeizeDeclared.rows.settle.Settled.{Settled}
-use Rattle.map_tables.specs.Given.SeizeDeclared.rows.settle.Settled.TheVariants as settled
+use Rattle.seize.specs.declared.advance.Advance.{Advance}
+use Rattle.seize.specs.declared.advance.Advance.TheVariants as progress
+use Rattle.seize.specs.declared.rows.settle.Settled.{Settled}
+use Rattle.seize.specs.declared.rows.settle.Settled.TheVariants as settled
 use Rattle.owner_calls.proofs.Given.SeizeRuleRows.Leaving.{steps_back}
 use Rattle.map_tables.specs.declared.marks.TheConstants.{TOMBSTONE}
 use Rattle.map_tables.specs.declared.node.Node.{Node}

@@ -8,10 +8,10 @@ use Rattle.seize_words.specs.OneMemory.Word.{block_in}
 use Rattle.seize_words.specs.OneMemory.Mem.{Mem, word_at, word_in, block_of, fresh, IsFreeNumber, after}
 use Rattle.seize_words.specs.OneMemory.Op.{Make, Made}
 use Rattle.seize_words.proofs.OneMemory.OneOwner.AfterWrites.{block_of-made}
-use Rattle.map_tables.specs.Given.SeizeDeclared.advance.Advance.{Advance}
-use Rattle.map_tables.specs.Given.SeizeDeclared.advance.Advance.TheVariants as progress
-use Rattle.map_tables.specs.Given.SeizeDeclared.rows.settle.Settled.{Settled}
-use Rattle.map_tables.specs.Given.SeizeDeclared.rows.settle.Settled.TheVariants as settled
+use Rattle.seize.specs.declared.advance.Advance.{Advance}
+use Rattle.seize.specs.declared.advance.Advance.TheVariants as progress
+use Rattle.seize.specs.declared.rows.settle.Settled.{Settled}
+use Rattle.seize.specs.declared.rows.settle.Settled.TheVariants as settled
 use Rattle.papaya_raw.specs.Call.{first_made, next_made, disposed, helped, copied}
 use Rattle.papaya_raw.specs.CallPoints.{going, standing, over, ending, following_made, storing, at_gap, gap_by, asking_at, pair_by, tableless, at_free, at_last, at_pair, after_finding, entering, continued_in, changed, counted, having_met}
 use Rattle.papaya_raw.specs.Replies.{value_replied, value_for}

@@ -8,8 +8,8 @@ use Rattle.seize_words.specs.OneMemory.Op.{Out, Found, Stored, Exchanged, Made, 
 use Rattle.seize_words.specs.OneMemory.Plan.{Now, Seeing, Steps}
 use Rattle.seize_words.specs.OneMemory.Word.{block_in}
 use Rattle.seize_words.specs.declared.at.At.TheVariants.{Root, Word}
-use Rattle.map_tables.specs.Given.SeizeDeclared.rows.settle.Settled.{Settled}
-use Rattle.map_tables.specs.Given.SeizeDeclared.rows.settle.Settled.TheVariants as settled
+use Rattle.seize.specs.declared.rows.settle.Settled.{Settled}
+use Rattle.seize.specs.declared.rows.settle.Settled.TheVariants as settled
 use Rattle.map_tables.specs.Chunks.{is_incremental}
 use Rattle.map_tables.specs.Marks.{has_mark}
 use Rattle.map_tables.specs.Nodes.{table_seen}

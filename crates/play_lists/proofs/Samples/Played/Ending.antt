@@ -2,7 +2,7 @@
 use Rattle.std.specs.Prelude.{◌++◌, replicate}
 use Rattle.std.proofs.Common.{◌≡◌, ℕ, true, List, [], ◌∷◌, refl, Some, None}
 use Rattle.run_schedules.specs.Given.SeizeWordsDeclared.fault.Fault.TheVariants.{Memory}
-use Rattle.map_tables.specs.Given.SeizeWorld.{Leave'}
+use Rattle.seize.specs.World.{Leave'}
 use Rattle.map_tables.specs.declared.resize_mode.ResizeMode.TheVariants as mode
 use Rattle.map_tables.specs.declared.setting.Setting.{Setting}
 use Rattle.run_schedules.specs.declared.effect.Effect.TheVariants.{Asked, Ended, Taken}

@@ -1,7 +1,7 @@
 -- A short list of acts, played: a pair is removed, waits for the section that is open, and is reclaimed as that ends, or by who reclaims all.
 use Rattle.std.specs.Prelude.{◌++◌, replicate}
 use Rattle.std.proofs.Common.{◌≡◌, ℕ, true, false, List, [], ◌∷◌, refl, Some, None}
-use Rattle.map_tables.specs.Given.SeizeWorld.{Leave'}
+use Rattle.seize.specs.World.{Leave'}
 use Rattle.run_schedules.specs.declared.call.Response.TheVariants as answer
 use Rattle.run_schedules.specs.declared.call.Call.TheVariants.{On}
 use Rattle.run_schedules.specs.declared.call.OneKey.TheVariants as one

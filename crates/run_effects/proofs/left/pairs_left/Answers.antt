@@ -1,7 +1,7 @@
 -- The pairs that are left are listed.
 use Rattle.std.specs.Prelude.{◌≡◌, ◌≤◌, ◌+◌, ◌++◌, ◌∷◌, [], ℕ}
 use Rattle.std.proofs.Common.{refl, sym, ap, ◌∙◌, arith}
-use Rattle.seize_words.specs.OneMemory.Mem.{value_at}
+use Rattle.run_schedules.specs.Given.SeizeWordsMem.{value_at}
 use Rattle.run_effects.specs.Effects.Known.{known}
 use Rattle.run_effects.specs.Tallies.Left.{noted_below}
 use Rattle.run_effects.proofs.Tallies.Taken.{none_listed, one_listed}

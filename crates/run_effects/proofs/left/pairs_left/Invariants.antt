@@ -1,6 +1,6 @@
 -- The pairs of the blocks so far are listed, and the blocks from here on are as they were.
 use Rattle.std.specs.Prelude.{◌≡◌, ◌≤◌, ℕ}
-use Rattle.seize_words.specs.OneMemory.Mem.{value_at}
+use Rattle.run_schedules.specs.Given.SeizeWordsMem.{value_at}
 use Rattle.run_effects.specs.Effects.Known.{known}
 use Rattle.run_effects.specs.Tallies.Left.{noted_below}
 use Rattle.run_effects.proofs.left.pairs_left.Given as goal

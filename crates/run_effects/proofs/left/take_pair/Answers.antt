@@ -1,6 +1,6 @@
 -- A pair is taken out of its block.
 use Rattle.std.proofs.Common.{◌∙◌, ap, sym}
-use Rattle.seize_words.specs.OneMemory.Mem.{value_at}
+use Rattle.run_schedules.specs.Given.SeizeWordsMem.{value_at}
 use Rattle.run_effects.proofs.Tallies.Taken.{may_take, others_stay, pair_taken}
 use Rattle.run_effects.proofs.left.take_pair.Goals as goal
 

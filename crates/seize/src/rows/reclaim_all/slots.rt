@@ -8,9 +8,9 @@ use crate::machine::StepMachine;
 use crate::rows::enter::Unregister;
 use crate::rows::leave::Leave;
 use crate::rows::reclaim_all::{ReclaimAll, Reclaiming};
-use crate::rows::settle::{Defers, Settle, Settled};
+use crate::rows::settle::{Settle, Settled};
 use crate::states::{ACTIVE, BATCH, FREE, HEAD, IDLE, NEVER};
-use seize_words::{At, Memory};
+use seize_words::{At, Defers, Memory};
 
 impl ReclaimAll {
     /// Reads the head of a slot. The first one that was never taken ends the slots. One that was given up is taken again, and an

@@ -2,9 +2,9 @@
 ghost use Rattle.seize_words.specs.OneMemory.Plan.{May, Steps};
 ghost use Rattle.seize.specs.Settle.{nexts, drains, joins, tails, takes, puts, lists, owns, downs};
 
-use crate::rows::settle::{Defers, Settle, Settled, Settling};
+use crate::rows::settle::{Settle, Settled, Settling};
 use crate::states::{COUNT, FIRST, LINK, NEXT};
-use seize_words::{At, Link, Memory};
+use seize_words::{At, Defers, Link, Memory};
 
 impl Settle {
     /// Reads which block comes after the one that is reclaimed, and whether that one holds further values.

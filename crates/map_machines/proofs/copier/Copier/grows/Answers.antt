@@ -1,7 +1,7 @@
 -- A step of the making is the copying's, with its outcome turned.
 use Rattle.std.proofs.Common.{refl, subst, sym}
 use Rattle.map_tables.specs.Given.SeizeWordsPlan.{Steps}
-use Rattle.map_tables.proofs.Given.SeizeStepsInto.{steps_into}
+use Rattle.seize.proofs.StepsInto.{steps_into}
 use Rattle.map_machines.specs.NewTable.{new_table_plan}
 use Rattle.map_machines.specs.declared.copier.Copying.{Copying}
 use Rattle.map_machines.specs.Copier.{plan_at}

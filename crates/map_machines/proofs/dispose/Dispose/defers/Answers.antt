@@ -1,8 +1,8 @@
 -- A step of the putting is the disposal's, with its outcome turned.
 use Rattle.std.proofs.Common.{refl, subst, sym}
 use Rattle.map_tables.specs.Given.SeizeWordsPlan.{Steps}
-use Rattle.map_tables.proofs.Given.SeizeStepsInto.{steps_into}
-use Rattle.map_tables.specs.Given.SeizeDefer.{defer_plan}
+use Rattle.seize.proofs.StepsInto.{steps_into}
+use Rattle.seize.specs.Defer.{defer_plan}
 use Rattle.map_machines.specs.declared.dispose.Disposing.{Disposing}
 use Rattle.map_machines.specs.Dispose.{plan_at, deferred}
 use Rattle.map_machines.proofs.dispose.Dispose.defers.Goals as goal

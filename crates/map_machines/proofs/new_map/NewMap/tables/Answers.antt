@@ -1,6 +1,6 @@
 -- A step of the making is the beginning's, with its outcome turned.
 use Rattle.map_tables.proofs.Given.SeizeWordsPlans.{may_as}
-use Rattle.map_tables.proofs.Given.SeizeStepsInto.{steps_into}
+use Rattle.seize.proofs.StepsInto.{steps_into}
 use Rattle.map_machines.specs.NewTable.{new_table_plan}
 use Rattle.map_machines.specs.NewMap.{opened}
 use Rattle.map_machines.proofs.new_map.NewMap.tables.Goals as goal
