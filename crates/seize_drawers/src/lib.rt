@@ -1,7 +1,7 @@
-//! Drawers: cells of which one number is known of whatever lies in them.
+//! Drawers: cells that hold a value or nothing, where one number is known of whatever value that is.
 #![tactic(auto)]
 
-ghost use Rattle.std.specs.Prelude.{◌≡◌, ℕ};
+ghost use Rattle.std.specs.Prelude.{◌≡◌, ℕ, IfSome};
 ghost use base.Fml.{fex, fsep, ftrue};
 ghost use Rattle.seize_drawers.specs.Ownership.{lies_behind};
 
@@ -12,19 +12,19 @@ pub trait Labelled {
     ghost label: { Self → ℕ };
 }
 
-/// A cell that holds values of one label. In clauses it is that label, whatever lies in it.
+/// A cell that holds a value of one label, or nothing. In clauses it is that label, whatever lies in it.
 pub struct Drawer<T: Labelled> {
-    value: T,
+    value: Option<T>,
 }
 
 impl<T: Labelled> Owns for Drawer<T> {
     ghost Value = { ℕ };
 
-    ghost shr_at = { λ n. lies_behind Fields (λ i. T.label i.value ≡ n) };
+    ghost shr_at = { λ n. lies_behind Fields (λ i. IfSome i.value (λ value. T.label value ≡ n)) };
 }
 
 impl<T: Labelled> Move for Drawer<T> {
-    ghost own_val = { λ n vs. fex Inside (λ i. fsep (Fields.own_val i vs) (fex (T.label i.value ≡ n) (λ _. ftrue))) };
+    ghost own_val = { λ n vs. fex Inside (λ i. fsep (Fields.own_val i vs) (fex (IfSome i.value (λ value. T.label value ≡ n)) (λ _. ftrue))) };
 }
 
 unsafe impl<T: Labelled + Send> Send for Drawer<T> {}
@@ -34,25 +34,25 @@ impl<T: Labelled> Drawer<T> {
     pub fn new(value: T) -> Self
         ensures { result ≡ T.label value }
     {
-        Drawer { value }
+        Drawer { value: Some(value) }
     }
 
-    /// Puts a value of the same label in, and answers the one that was there.
-    pub fn replace(&self, value: T) -> T
-        requires { T.label value ≡ self.now }
-        ensures { T.label result ≡ self.now }
+    /// Puts a value of its label in, or none, and answers what was there.
+    pub fn replace(&self, value: Option<T>) -> Option<T>
+        requires { IfSome value (λ value. T.label value ≡ self.now) }
+        ensures { IfSome result (λ was. T.label was ≡ self.now) }
     {
-        let place = &raw const self.value as *mut T;
+        let place = &raw const self.value as *mut Option<T>;
         unsafe {
-            let old = place.read();
+            let was = place.read();
             place.write(value);
-            old
+            was
         }
     }
 
     /// Returns what lies in it.
-    pub fn into_inner(self) -> T
-        ensures { T.label result ≡ self }
+    pub fn into_inner(self) -> Option<T>
+        ensures { IfSome result (λ value. T.label value ≡ self) }
     {
         let Drawer { value } = self;
         value

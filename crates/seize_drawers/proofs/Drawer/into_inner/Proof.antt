@@ -1,5 +1,5 @@
 -- `into_inner` takes the value out. Assumes `Logic`.
-use Rattle.std.proofs.Common.{◌≡◌, ℕ, List, [], ◌∷◌, ◌++◌, refl}
+use Rattle.std.proofs.Common.{ℕ, List, [], ◌∷◌, ◌++◌, refl}
 use mir.Syntax.{Args, Fn, a_type, dcons, dnil}
 use mir.Val.{Val}
 use mir.MapTy.{inst_fn}
@@ -14,14 +14,13 @@ use types.ByLocal.{alloc_all, pass_all, free_all, look_at, get, get_in, sets}
 use denote.Exit.{no}
 use denote.RattleType.{owns}
 use denote.Param.{bounded, layout}
-use denote.Param.Laws.{param_laws}
 use denote.Signature.{plain, types_at}
 use denote.Steps.{nothing}
 use denote.Triple.Entry.{alive}
 use denote.Triple.Walked.{Stays, stay_dropped, walk_of, Goes-dropped}
 use Rattle.core.proofs.cell.Inside.{round, Good-round}
 use Rattle.std.proofs.raw_atomic.Walks.{proved_at, leaves}
-use Rattle.seize_drawers.proofs.Opening.{R, takes_out}
+use Rattle.seize_drawers.proofs.Opening.{R, Held, Is, held_is_lawful, takes_out}
 use Rattle.seize_drawers.specs.contracts.Drawer as drawer
 use Rattle.seize_drawers.specs.contracts.Drawer.into_inner.{ended, clauses}
 use Rattle.seize_drawers.specs.contracts.Drawer.into_inner.Key.{name as #self}
@@ -44,12 +43,12 @@ into_inner_spec 𝓤 𝓛 𝓜 𝓡 wired Y laws g d met =
     let vs : List Val = z.0.4.0 in
     qed 𝓛 ((raw (alive 𝓛 ends.signature z.0.0 z.0.1) ⊛ ‵ (owns (types_at ends.signature.params z.0.0) z.0.3 z.0.4)) ∷ raw ((says z.0.0 z.0.3).requires z.1) ∷ []) ∵
     keep ! (0 ∷ []) $ split ! $ move ! (1 ∷ []) $ fsplit ! $ move ! (1 ∷ []) $ drop ! $ fsplit ! $ drop ! $
-    takes_out Y g n ! ((param_laws 0 Y laws).lawful 𝓛) vs (λ x v is good e.
+    takes_out Y g n ! (held_is_lawful Y g laws 𝓛) vs (λ x v is good e.
     regoal ! (λ (us : List Val). prop (WpFn 𝓤 H t.C t.Λ fn us Post)) (λ i. e i ++ []) refl $
     enter ! t.C t.Λ fn (round v ∷ []) Post $
-    alloc_all ! (λ l. pass_all ! refl (Good-round [] (layout Y) v good, tt) $
+    alloc_all ! (λ l. pass_all ! refl (Good-round [] (layout (Held Y g)) v good, tt) $
     sets ! (of_opd ! (get_in ! (fld ! refl (stop !)) (sub ! 0 refl (whole !)))) refl good $
     sets ! (of_opd ! (get ! refl)) refl good $
     returns ! (look_at ! 0 refl) $ free_all ! refl $
-    use0 𝓛 (raw (fact 𝓤 (g.label x ≡ n))) (fact_i 𝓤 (g.label x ≡ n) (emp 𝓤) is) $ nothing ! $ nothing ! $ fjoin ! $ move ! (3 ∷ 0 ∷ 2 ∷ 1 ∷ []) $
+    use0 𝓛 (raw (fact 𝓤 (Is Y g n x))) (fact_i 𝓤 (Is Y g n x) (emp 𝓤) is) $ nothing ! $ nothing ! $ fjoin ! $ move ! (3 ∷ 0 ∷ 2 ∷ 1 ∷ []) $
     by ! (leaves 𝓛 ends stays says z v x (tt, tt) (tt, tt)))))
