@@ -11,3 +11,5 @@ mod ground;
 mod holding;
 #[cfg(test)]
 mod many;
+#[cfg(test)]
+mod retiring;
