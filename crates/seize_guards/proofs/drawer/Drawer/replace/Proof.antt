@@ -35,13 +35,13 @@ use Rattle.core.proofs.alloc.Calls.{Goes-blank}
 use Rattle.core.proofs.alloc.Shapes.{after}
 use Rattle.core.proofs.cell.Inside.{one}
 use Rattle.std.proofs.raw_atomic.Walks.{leaves}
-use Rattle.seize_drawers.proofs.Opening.{R, Held, Is, is_gone, held_is_lawful, opens, shuts}
-use Rattle.seize_drawers.specs.contracts.Drawer as drawer
-use Rattle.seize_drawers.specs.contracts.Drawer.replace.{ended, clauses}
-use Rattle.seize_drawers.specs.contracts.Drawer.replace.Key.{name as #self}
-use Rattle.seize_drawers.proofs.Drawer.replace.Statement.{statement}
-use Rattle.seize_drawers.proofs.Drawer.replace.Code as compiled
-use Rattle.seize_drawers.proofs.Drawer.replace.Code.{code}
+use Rattle.seize_guards.proofs.Drawers.{R, Held, Is, is_gone, held_is_lawful, opens, shuts}
+use Rattle.seize_guards.specs.contracts.drawer.Drawer as drawer
+use Rattle.seize_guards.specs.contracts.drawer.Drawer.replace.{ended, clauses}
+use Rattle.seize_guards.specs.contracts.drawer.Drawer.replace.Key.{name as #self}
+use Rattle.seize_guards.proofs.drawer.Drawer.replace.Statement.{statement}
+use Rattle.seize_guards.proofs.drawer.Drawer.replace.Code as compiled
+use Rattle.seize_guards.proofs.drawer.Drawer.replace.Code.{code}
 
 pub replace_spec : {M : Type 1} → statement M
 unfolding tables_of code

@@ -22,10 +22,10 @@ use denote.Steps.{nothing}
 use denote.Struct.Members.{Member}
 use Rattle.core.specs.contracts.option.Option as option
 use Rattle.core.proofs.cell.Inside.{Good, round, wraps, unwraps}
-use Rattle.seize_drawers.specs.Ownership.{fitting, lies}
-use Rattle.seize_drawers.specs.declared.Labelled.{Ghosts}
-use Rattle.seize_drawers.specs.contracts.Drawer as drawer
-use Rattle.seize_drawers.specs.contracts.Drawer.TheInside as inside
+use Rattle.seize_guards.specs.Drawers.{fitting, lies}
+use Rattle.seize_guards.specs.declared.drawer.Labelled.{Ghosts}
+use Rattle.seize_guards.specs.contracts.drawer.Drawer as drawer
+use Rattle.seize_guards.specs.contracts.drawer.Drawer.TheInside as inside
 
 module _ (Y : RattleType) (g : Ghosts Y.Denot) where
   abbrev pub R : RattleType

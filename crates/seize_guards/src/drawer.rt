@@ -1,19 +1,17 @@
-//! Drawers: cells that hold a value or nothing, where one number is known of whatever value that is.
-#![tactic(auto)]
-
+//! Drawers, cells that hold a value or nothing, where one number is known of whatever value that is.
 ghost use Rattle.std.specs.Prelude.{◌≡◌, ℕ, IfSome};
 ghost use base.Fml.{fex, fsep, ftrue};
-ghost use Rattle.seize_drawers.specs.Ownership.{lies_behind};
+ghost use Rattle.seize_guards.specs.Drawers.{lies_behind};
 
 use std::marker::{Move, Owns};
 
 /// A type each value of which has a number, its label.
-pub trait Labelled {
+pub(crate) trait Labelled {
     ghost label: { Self → ℕ };
 }
 
 /// A cell that holds a value of one label, or nothing. In clauses it is that label, whatever lies in it.
-pub struct Drawer<T: Labelled> {
+pub(crate) struct Drawer<T: Labelled> {
     value: Option<T>,
 }
 
@@ -31,14 +29,14 @@ unsafe impl<T: Labelled + Send> Send for Drawer<T> {}
 
 impl<T: Labelled> Drawer<T> {
     /// Makes one that holds this value.
-    pub fn new(value: T) -> Self
+    pub(crate) fn new(value: T) -> Self
         ensures { result ≡ T.label value }
     {
         Drawer { value: Some(value) }
     }
 
     /// Puts a value of its label in, or none, and answers what was there.
-    pub fn replace(&self, value: Option<T>) -> Option<T>
+    pub(crate) fn replace(&self, value: Option<T>) -> Option<T>
         requires { IfSome value (λ value. T.label value ≡ self.now) }
         ensures { IfSome result (λ was. T.label was ≡ self.now) }
     {
@@ -51,7 +49,7 @@ impl<T: Labelled> Drawer<T> {
     }
 
     /// Returns what lies in it.
-    pub fn into_inner(self) -> Option<T>
+    pub(crate) fn into_inner(self) -> Option<T>
         ensures { IfSome result (λ value. T.label value ≡ self) }
     {
         let Drawer { value } = self;

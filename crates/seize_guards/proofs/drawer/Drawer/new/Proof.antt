@@ -26,11 +26,11 @@ use Rattle.core.proofs.cell.Inside.{Good, one, round, Good-round}
 use Rattle.core.proofs.option.Made.{Some-of}
 use Rattle.std.proofs.ResultValues.{and_tt}
 use Rattle.std.proofs.raw_atomic.Walks.{proved_at, leaves}
-use Rattle.seize_drawers.proofs.Opening.{R, Held, F, puts_in}
-use Rattle.seize_drawers.specs.contracts.Drawer.new.{ended, clauses}
-use Rattle.seize_drawers.specs.contracts.Drawer.new.Key.{name as #self}
-use Rattle.seize_drawers.proofs.Drawer.new.Statement.{statement}
-use Rattle.seize_drawers.proofs.Drawer.new.Code as compiled
+use Rattle.seize_guards.proofs.Drawers.{R, Held, F, puts_in}
+use Rattle.seize_guards.specs.contracts.drawer.Drawer.new.{ended, clauses}
+use Rattle.seize_guards.specs.contracts.drawer.Drawer.new.Key.{name as #self}
+use Rattle.seize_guards.proofs.drawer.Drawer.new.Statement.{statement}
+use Rattle.seize_guards.proofs.drawer.Drawer.new.Code as compiled
 
 pub new_spec : {M : Type 1} → statement M
 new_spec 𝓤 𝓛 𝓜 𝓡 wired Y laws g d met =

@@ -3,9 +3,9 @@ use denote.RattleType.{RattleType}
 use denote.Param.Send.{IsSend, struct_send}
 use denote.Struct.Declared.{shape}
 use Rattle.core.specs.contracts.option.Option as option
-use Rattle.seize_drawers.specs.declared.Labelled.{Ghosts}
-use Rattle.seize_drawers.specs.contracts.Drawer.{the_row}
-use Rattle.seize_drawers.specs.contracts.Drawer.TheInside as inside
+use Rattle.seize_guards.specs.declared.drawer.Labelled.{Ghosts}
+use Rattle.seize_guards.specs.contracts.drawer.Drawer.{the_row}
+use Rattle.seize_guards.specs.contracts.drawer.Drawer.TheInside as inside
 
 held_send : (R : RattleType) → IsSend R → IsSend (option.the_field R).row
 held_send R s = search denote.Param.Send.sendable

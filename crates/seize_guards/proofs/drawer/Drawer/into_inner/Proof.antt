@@ -20,12 +20,12 @@ use denote.Triple.Entry.{alive}
 use denote.Triple.Walked.{Stays, stay_dropped, walk_of, Goes-dropped}
 use Rattle.core.proofs.cell.Inside.{round, Good-round}
 use Rattle.std.proofs.raw_atomic.Walks.{proved_at, leaves}
-use Rattle.seize_drawers.proofs.Opening.{R, Held, Is, held_is_lawful, takes_out}
-use Rattle.seize_drawers.specs.contracts.Drawer as drawer
-use Rattle.seize_drawers.specs.contracts.Drawer.into_inner.{ended, clauses}
-use Rattle.seize_drawers.specs.contracts.Drawer.into_inner.Key.{name as #self}
-use Rattle.seize_drawers.proofs.Drawer.into_inner.Statement.{statement}
-use Rattle.seize_drawers.proofs.Drawer.into_inner.Code as compiled
+use Rattle.seize_guards.proofs.Drawers.{R, Held, Is, held_is_lawful, takes_out}
+use Rattle.seize_guards.specs.contracts.drawer.Drawer as drawer
+use Rattle.seize_guards.specs.contracts.drawer.Drawer.into_inner.{ended, clauses}
+use Rattle.seize_guards.specs.contracts.drawer.Drawer.into_inner.Key.{name as #self}
+use Rattle.seize_guards.proofs.drawer.Drawer.into_inner.Statement.{statement}
+use Rattle.seize_guards.proofs.drawer.Drawer.into_inner.Code as compiled
 
 pub into_inner_spec : {M : Type 1} → statement M
 into_inner_spec 𝓤 𝓛 𝓜 𝓡 wired Y laws g d met =

@@ -10,9 +10,9 @@ use denote.RattleType.{RattleType}
 use denote.Memory.{part_at, part_of}
 use denote.Hidden.{guarded_shr_laws}
 use denote.Param.Laws.{Laws}
-use Rattle.seize_drawers.specs.declared.Labelled.{Ghosts}
-use Rattle.seize_drawers.specs.contracts.Drawer as drawer
-use Rattle.seize_drawers.proofs.Drawer.TheLaw.Statement.{statement}
+use Rattle.seize_guards.specs.declared.drawer.Labelled.{Ghosts}
+use Rattle.seize_guards.specs.contracts.drawer.Drawer as drawer
+use Rattle.seize_guards.proofs.drawer.Drawer.TheLaw.Statement.{statement}
 
 pub shares : (T : RattleType) (g : Ghosts T.Denot) (L : Laws T) → statement T g L
 unfolding part_of
