@@ -25,7 +25,7 @@ use Rattle.threads_rule.specs.declared.view.Map.{Map}
 use Rattle.threads_rule.specs.declared.view.View.{View}
 use Rattle.threads_rule.specs.declared.view.SeatWork.{SeatWork}
 use Rattle.threads_rule.specs.declared.view.SeatWork.TheVariants.{Nothing, Calls, Makes}
-use Rattle.threads_rule.proofs.Views.Handed.{reclaiming_handed}
+use Rattle.seize_views.proofs.Views.Handed.{reclaiming_handed}
 use Rattle.threads_rule.proofs.Views.Leaves.{own_section}
 use Rattle.threads_rule.proofs.Views.Ran.{Keeps}
 
@@ -86,6 +86,7 @@ module _ {K V S : Type 0} (fixed : Fixed) (j : ℕ) (x : View K V S) where
     bound_on (slot_view.Watches t d) b = tt
     bound_on (slot_view.Under n t d) b = tt
     bound_on (slot_view.Joins block) b = tt
+    bound_on (slot_view.Defers t d) b = tt
     bound_on (slot_view.Busy t) b = tt
 
     pub knows_on : KnowsRow fixed scene j x.slot → KnowsRow fixed n j x.slot
