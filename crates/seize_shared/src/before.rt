@@ -59,9 +59,10 @@ impl<'a, T: Defers> Before<'a, T> {
         requires { block_in self.word ≡ 0 }
     {
         let Before {
-            caller: _,
+            caller,
             number: _,
             word: _,
         } = self;
+        drop(caller);
     }
 }
