@@ -1,8 +1,10 @@
-//! A writer that knows whether a write to it has failed.
-ghost use Rattle.std.specs.Prelude.{◌≡◌, false};
+//! A writer that knows whether a write to it has failed, and what a program says on its two outputs.
+ghost use Rattle.std.specs.Prelude.{◌≡◌, ◌++◌, false, OnOk};
 ghost use Rattle.std.specs.Io.KnownBytes.{Appends};
-ghost use Rattle.reclaimed_engine.specs.PrintedText.Output.{has_failed, writer_of, Writes};
+ghost use Rattle.reclaimed_script.specs.Outputs.{has_failed, refused_line, writer_of, ReportsFailure, Writes};
 
+use seize_words::Fault;
+use std::alloc::{AllocError, Global};
 use std::io::Write;
 
 /// A writer, and whether a write to it has failed.
@@ -53,9 +55,34 @@ impl<W> Output<W> {
 }
 
 /// Writes a text, and answers the status: 0 where all of it was written.
-pub fn write<W: Write>(output: &mut Output<W>, text: &[u8]) -> u8
+fn write<W: Write>(output: &mut Output<W>, text: &[u8]) -> u8
     ensures { Writes result text.now (has_failed output.new) (W.contents (writer_of output.old)) (W.contents (writer_of output.new)) }
 {
     output.put(text);
     if output.has_failed() { 1 } else { 0 }
+}
+
+/// Writes what is printed, and answers the status: 0 where all was written. A write that failed is told on the errors.
+pub fn print<W: Write, E: Write>(
+    output: &mut Output<W>,
+    errors: &mut Output<E>,
+    text: &[u8],
+) -> u8
+    ensures writes { Writes result text.now (has_failed output.new) (W.contents (writer_of output.old)) (W.contents (writer_of output.new)) }
+    ensures says { ReportsFailure (has_failed output.new) (has_failed errors.new) (E.contents (writer_of errors.old)) (E.contents (writer_of errors.new)) }
+{
+    let status = write(output, text);
+    if output.has_failed() {
+        errors.put(b"write failed\n");
+    }
+    status
+}
+
+/// Appends the line of what was refused.
+#[tactic(auto, using(crate::proofs::OutputLemmas::refused_line_parts))]
+pub fn append_refused_line(alloc: Global, out: &mut Vec<u8>, fault: Fault) -> Result<(), AllocError>
+    ensures { OnOk result (out.new.items ≡ out.old.items ++ refused_line fault) }
+{
+    let line = format!(in alloc; "refused {} {}\n", fault.number(), fault.name())?;
+    out.extend_from_slice(line.as_bytes())
 }
