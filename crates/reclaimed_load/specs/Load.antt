@@ -25,7 +25,7 @@ abbrev pub load_text : ℕ → ℕ → ℕ → List ℕ
 load_text threads keys sum = line (codes "threads " ++ decimal threads) ++ line (codes "keys " ++ decimal keys) ++ line (codes "sum " ++ decimal sum)
 
 abbrev pub usage : List ℕ
-usage = line (codes "usage: reclaimed_map [load T N]")
+usage = codes "usage: reclaimed_map [load T N]\n"
 
 -- what so many threads have left is printed, and nothing else
 abbrev pub IsPrinted : ℕ → Streams → Type 0

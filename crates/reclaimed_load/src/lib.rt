@@ -3,7 +3,7 @@
 
 mod counting;
 
-ghost use Rattle.std.specs.Prelude.{◌≡◌, ◌++◌, false, map, string_bytes, IfOk, OnErr, OnOk};
+ghost use Rattle.std.specs.Prelude.{◌≡◌, None, false, map, string_bytes, IfOk, OnErr};
 ghost use Rattle.std.specs.Io.KnownBytes.{Keeps, Appends};
 ghost use Rattle.reclaimed_load.specs.Load.{load_of, load_text, usage, EndsLoad};
 ghost use Rattle.reclaimed_script.specs.Outputs.{has_failed, refused_line, writer_of};
@@ -35,7 +35,10 @@ fn asked(words: &[String]) -> Result<(u64, u64), LineFault>
 fn text_of(alloc: Global, threads: u64, counted: Counted) -> Result<Vec<u8>, AllocError>
     ensures { IfOk result (λ text. text.items ≡ load_text threads counted.keys counted.sum) }
 {
-    let text = format!(in alloc; "threads {threads}\nkeys {}\nsum {}\n", counted.keys, counted.sum)?;
+    let text = format!(in alloc;
+        "threads {threads}\nkeys {}\nsum {}\n",
+        counted.keys, counted.sum
+    )?;
     Vec::from_slice(alloc, text.as_bytes())
 }
 
@@ -69,6 +72,7 @@ pub fn load<R: Threads + Wait + Sync, W: Write, E: Write>(
 ) -> Result<u8, AllocError>
     requires { has_failed output.old ≡ false }
     ensures ends { IfOk result (λ status. EndsLoad status (load_of (map string_bytes words.now)) (record {
+      left = None;
       output_before = W.contents (writer_of output.old);
       output_after = W.contents (writer_of output.new);
       output_failed = has_failed output.new;
@@ -83,7 +87,14 @@ pub fn load<R: Threads + Wait + Sync, W: Write, E: Write>(
         Ok(asked) => asked,
         Err(_) => return Ok(says(errors, b"usage: reclaimed_map [load T N]\n")),
     };
-    match count(rt, alloc, &Open, ResizeMode::default(), threads as usize, updates) {
+    match count(
+        rt,
+        alloc,
+        &Open,
+        ResizeMode::default(),
+        threads as usize,
+        updates,
+    ) {
         Ok(counted) => {
             let text = text_of(alloc, threads, counted)?;
             Ok(print(output, errors, &text))

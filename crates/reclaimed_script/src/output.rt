@@ -63,11 +63,7 @@ fn write<W: Write>(output: &mut Output<W>, text: &[u8]) -> u8
 }
 
 /// Writes what is printed, and answers the status: 0 where all was written. A write that failed is told on the errors.
-pub fn print<W: Write, E: Write>(
-    output: &mut Output<W>,
-    errors: &mut Output<E>,
-    text: &[u8],
-) -> u8
+pub fn print<W: Write, E: Write>(output: &mut Output<W>, errors: &mut Output<E>, text: &[u8]) -> u8
     ensures writes { Writes result text.now (has_failed output.new) (W.contents (writer_of output.old)) (W.contents (writer_of output.new)) }
     ensures says { ReportsFailure (has_failed output.new) (has_failed errors.new) (E.contents (writer_of errors.old)) (E.contents (writer_of errors.new)) }
 {
