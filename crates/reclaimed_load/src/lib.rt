@@ -9,7 +9,7 @@ ghost use Rattle.reclaimed_load.specs.Load.{load_of, load_text, usage, EndsLoad}
 ghost use Rattle.reclaimed_script.specs.Outputs.{has_failed, refused_line, writer_of};
 
 pub use counting::{Counted, Gate, Open, count};
-use papaya_map::{Fault, ResizeMode};
+pub use papaya_map::{Fault, ResizeMode};
 use reclaimed_script::{LineFault, Output, append_refused_line, number_between, print};
 use std::alloc::{AllocError, Global};
 use std::io::Write;

@@ -152,7 +152,11 @@ impl Case {
     }
 
     /// Runs the script, or does what the arguments say.
-    pub fn run<R: Threads + Wait + Sync>(&self, rt: &R, alloc: Global) -> Result<Ended, AllocError> {
+    pub fn run<R: Threads + Wait + Sync>(
+        &self,
+        rt: &R,
+        alloc: Global,
+    ) -> Result<Ended, AllocError> {
         let mut input = GivenBytes {
             left: &self.script,
             piece: self.piece,

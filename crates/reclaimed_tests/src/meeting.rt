@@ -1,6 +1,5 @@
 //! Two workers that look for one another, which one after the other never finds.
-use reclaimed_load::{Gate, count};
-use papaya_map::{Fault, ResizeMode};
+use reclaimed_load::{Fault, Gate, ResizeMode, count};
 use std::alloc::Global;
 use std::sync::Wait;
 use std::sync::atomic::AtomicU64;
