@@ -13,6 +13,7 @@ const MODES: [ResizeMode; 2] = [ResizeMode::Incremental(64), ResizeMode::Blockin
 const LOOKS: u64 = 1_000_000;
 
 /// A gate at which each of two workers looks, as it arrives there for the second time, whether the other has, too.
+#[derive(Drop)]
 struct Meeting {
     one: AtomicU64,
     other: AtomicU64,
