@@ -1,12 +1,11 @@
 //! The lines of the events.
 ghost use Rattle.std.specs.Prelude.{◌≡◌, ◌++◌, codes, OnOk};
-ghost use Rattle.std.specs.Fmt.{decimal};
 ghost use Rattle.std.specs.List.{flat_map, zip};
 ghost use Rattle.reclaimed_engine.specs.PrintedText.Text.{answer_line, asks_line, back_line, back_lines, event_lines, numbered, outcome_line, shape_line, table_shape};
 ghost use Rattle.reclaimed_script.specs.Outputs.{line};
 
 use crate::pieces::append_numbered;
-use reclaimed_script::append_refused_line;
+use reclaimed_script::{append_number_line, append_refused_line};
 use run_schedules::call::Response;
 use run_schedules::effect::{Effect, Thing};
 use run_schedules::outcome::Outcome;
@@ -69,20 +68,6 @@ fn append_aborted_line(out: &mut Vec<u8>, value: &Token) -> Result<(), AllocErro
     out.extend_from_slice(b"aborted ")?;
     out.extend_from_slice(value.as_bytes())?;
     out.extend_from_slice(b"\n")
-}
-
-/// Appends a line of a word and a number.
-fn append_number_line(
-    alloc: Global,
-    out: &mut Vec<u8>,
-    word: &[u8],
-    number: u64,
-) -> Result<(), AllocError>
-    ensures { OnOk result (out.new.items ≡ out.old.items ++ line (word.now ++ decimal number)) }
-{
-    let text = format!(in alloc; "{number}\n")?;
-    out.extend_from_slice(word)?;
-    out.extend_from_slice(text.as_bytes())
 }
 
 /// Appends the line of a call that was answered.

@@ -5,41 +5,50 @@ mod counting;
 
 ghost use Rattle.std.specs.Prelude.{◌≡◌, None, false, map, string_bytes, IfOk, OnErr};
 ghost use Rattle.std.specs.Io.KnownBytes.{Keeps, Appends};
-ghost use Rattle.reclaimed_load.specs.Load.{load_of, load_text, usage, EndsLoad};
+ghost use Rattle.reclaimed_load.specs.Load.{load_by, load_of, load_text, usage, EndsLoad};
 ghost use Rattle.reclaimed_script.specs.Outputs.{has_failed, refused_line, writer_of};
 
 pub use counting::{Counted, Gate, Open, count};
 pub use papaya_map::{Fault, ResizeMode};
-use reclaimed_script::{LineFault, Output, append_refused_line, number_between, print};
+use reclaimed_script::{
+    LineFault, Output, append_number_line, append_refused_line, number_between, print,
+};
 use std::alloc::{AllocError, Global};
 use std::io::Write;
 use std::sync::Wait;
 use std::thread::Threads;
 
-/// What words ask for: how many threads, and how many updates of each.
+/// How many threads two words ask for, and how many updates of each.
+#[tactic(auto, unfolding(crate::specs::Load::load_by))]
+fn numbers_of(threads: &[u8], updates: &[u8]) -> Result<(u64, u64), LineFault>
+    ensures { result ≡ load_by threads.now updates.now }
+{
+    let threads = number_between(1, 16, threads)?;
+    let updates = number_between(0, 1_000_000, updates)?;
+    Ok((threads, updates))
+}
+
+/// What words ask for.
 fn asked(words: &[String]) -> Result<(u64, u64), LineFault>
     ensures { result ≡ load_of (map string_bytes words.now) }
 {
     match words {
         [first, threads, updates] if first.as_str() == "load" => {
-            let threads = number_between(1, 16, threads.as_bytes())?;
-            let updates = number_between(0, 1_000_000, updates.as_bytes())?;
-            Ok((threads, updates))
+            numbers_of(threads.as_bytes(), updates.as_bytes())
         }
         _ => Err(LineFault::UnknownEvent),
     }
 }
 
 /// What is printed of what so many threads have left.
-#[tactic(auto, using(crate::proofs::LoadLemmas::load_text_parts))]
 fn text_of(alloc: Global, threads: u64, counted: Counted) -> Result<Vec<u8>, AllocError>
     ensures { IfOk result (λ text. text.items ≡ load_text threads counted.keys counted.sum) }
 {
-    let text = format!(in alloc;
-        "threads {threads}\nkeys {}\nsum {}\n",
-        counted.keys, counted.sum
-    )?;
-    Vec::from_slice(alloc, text.as_bytes())
+    let mut text = Vec::new(alloc);
+    append_number_line(alloc, &mut text, b"threads ", threads)?;
+    append_number_line(alloc, &mut text, b"keys ", counted.keys)?;
+    append_number_line(alloc, &mut text, b"sum ", counted.sum)?;
+    Ok(text)
 }
 
 /// Says a line on the errors, and answers the status for it.

@@ -17,7 +17,7 @@ mod words;
 
 pub use fault::{LineFault, ScriptStop};
 pub use kinds::number_between;
-pub use output::{Output, append_refused_line, print};
+pub use output::{Output, append_number_line, append_refused_line, print};
 pub use parser::Script;
 pub use reading::read;
 pub use setup::{hasher_of, setup_of};

@@ -1,7 +1,8 @@
 //! A writer that knows whether a write to it has failed, and what a program says on its two outputs.
 ghost use Rattle.std.specs.Prelude.{◌≡◌, ◌++◌, false, OnOk};
+ghost use Rattle.std.specs.Fmt.{decimal};
 ghost use Rattle.std.specs.Io.KnownBytes.{Appends};
-ghost use Rattle.reclaimed_script.specs.Outputs.{has_failed, refused_line, writer_of, ReportsFailure, Writes};
+ghost use Rattle.reclaimed_script.specs.Outputs.{has_failed, line, refused_line, writer_of, ReportsFailure, Writes};
 
 use seize_words::Fault;
 use std::alloc::{AllocError, Global};
@@ -81,4 +82,18 @@ pub fn append_refused_line(alloc: Global, out: &mut Vec<u8>, fault: Fault) -> Re
 {
     let line = format!(in alloc; "refused {} {}\n", fault.number(), fault.name())?;
     out.extend_from_slice(line.as_bytes())
+}
+
+/// Appends a line of a word and a number.
+pub fn append_number_line(
+    alloc: Global,
+    out: &mut Vec<u8>,
+    word: &[u8],
+    number: u64,
+) -> Result<(), AllocError>
+    ensures { OnOk result (out.new.items ≡ out.old.items ++ line (word.now ++ decimal number)) }
+{
+    let text = format!(in alloc; "{number}\n")?;
+    out.extend_from_slice(word)?;
+    out.extend_from_slice(text.as_bytes())
 }
