@@ -9,9 +9,9 @@ use Rattle.papaya_sessions.specs.OneMap.{MapCameToHave, MapCounted, MapGaveUp, M
 use Rattle.papaya_sessions.specs.Sessions.{HasGot}
 use Rattle.papaya_sessions.specs.declared.session.Session.{Session}
 use Rattle.play_moves.proofs.OneHistory.Calls.{found_none, found_value, has_inserted, has_looked, has_missed, has_one, has_refused, has_removed, has_removed_pair, has_tried}
-use Rattle.play_moves.proofs.OneHistory.Named.{TellsOf, has_computed_pair, has_one_with, has_removed_if_pair, has_replaced_pair}
+use Rattle.play_moves.proofs.OneHistory.Named.{TellsOf, has_aborted, has_computed_pair, has_kept, has_one_with, has_removed_if_pair, has_replaced_pair}
 use Rattle.play_moves.proofs.OneHistory.Whole.{has_cleared, has_counted, has_made_room, has_retained, has_walked}
-use Rattle.play_moves.specs.OneHistory.Calls.{Became, CameIn, GaveWay, TookItsPlace, WentOut, HasInserted, HasLooked, HasOne, HasOneWith, HasRemoved as HasGivenUp, HasRemovedPair, HasTried as HasLacked}
+use Rattle.play_moves.specs.OneHistory.Calls.{Became, CameIn, GaveWay, TookItsPlace, WentOut, HasAborted, HasInserted, HasLooked, HasOne, HasOneWith, HasRemoved as HasGivenUp, HasRemovedPair, HasTried as HasLacked}
 use Rattle.play_moves.specs.Given.ActsActs.{Compute, ContainsKey, Count, Get, GoOver, Insert, MakeRoom, Remove, RemoveIf, TryToInsert, TryToInsertWith, Wanted}
 use Rattle.play_moves.specs.Given.ErrandsCalling.{is_put, outcome_of}
 use Rattle.play_moves.specs.Given.ErrandsLooking.{HasRun, found_of}
@@ -34,7 +34,7 @@ use Rattle.threads_updates.specs.Given.SeizeViewsDeclared.view.Fixed.{Fixed}
 use Rattle.threads_updates.specs.Given.SeizeViewsDeclared.view.Has.TheVariants.{Nothing}
 use Rattle.threads_updates.specs.Given.SeizeViewsDeclared.view.SlotView.TheVariants.{Inside}
 use Rattle.threads_updates.specs.Given.CallsDeclared.session.SessionBase.{SessionBase}
-use Rattle.threads_updates.specs.Updated.{HasComputed, HasUpdated, IsSo}
+use Rattle.threads_updates.specs.Updated.{HasComputed, HasUpdated, IsLeft, IsSo}
 use Rattle.threads_updates.specs.declared.changing.ComputedPair.{ComputedPair}
 use Rattle.threads_updates.specs.declared.changing.ComputedPair.TheVariants as computed
 use Rattle.threads_sweeps.specs.Swept.{HasGone, HasShown, HasSifted, retains, walks}
@@ -167,7 +167,11 @@ module _ {K V S : Type 0} {h : hashing.Ghosts K} (same : K → K → Bool) (hash
 
   -- and so it is where a closure was asked: whether to remove the pair,
   pub gave_up_if : (key : K) (taken : Option ℕ) → HasRemovedIf same hash key taken c n → MapGaveUpIf same hash key taken c n
-  gave_up_if key None has = (has, tt)
+  gave_up_if key None (answer, run, names) = (
+    (answer, run, names),
+    has_kept same hash fixed small n.seat.id run.1 w run.0 (begun (RemoveIf key) (outcome_of (Ok answer)) run) v.calls (stays ∙ run.2) (section run.1 run.3) run.4 key answer refl refl
+        (λ a. removed_by a ≡ None) (λ word is. absurd (cc is)) names,
+  )
   gave_up_if key (Some word) (answer, run, names) = (
     (answer, run, names),
     λ pair lent.
@@ -188,21 +192,23 @@ module _ {K V S : Type 0} {h : hashing.Ghosts K} (same : K → K → Bool) (hash
   -- and what is to be done.
   module _ {T : Type 0} (Is : K → Type 0) (Gives : Option (K × V) → Operation V T → Type 0) where
     all_told : (key : K) (done : ComputedPair T) (answer : Answer) → IsSo done answer → ((became : Became) (word : ℕ) → TellsOf became word answer → BecameSo same hash key became word n)
-        → MapTold same hash key done n
-    all_told key (computed.Inserted new) (said.Key (says.Stored word)) is by = by CameIn new.word is
-    all_told key (computed.Updated old new) (said.Key (says.Replaced was put)) is by = (by GaveWay old.word is.0, by TookItsPlace new.word is.1)
-    all_told key (computed.Removed old) (said.Key (says.Removed word)) is by = by WentOut old.word is
-    all_told key (computed.Aborted end) answer is by = tt
-    all_told key _ _ is by = absurd is
+        → (IsLeft answer → HasAborted same hash fixed n.seat.id w key) → MapTold same hash key done n
+    all_told key (computed.Inserted new) (said.Key (says.Stored word)) is by none = by CameIn new.word is
+    all_told key (computed.Updated old new) (said.Key (says.Replaced was put)) is by none = (by GaveWay old.word is.0, by TookItsPlace new.word is.1)
+    all_told key (computed.Removed old) (said.Key (says.Removed word)) is by none = by WentOut old.word is
+    all_told key (computed.Aborted end) answer is by none = none is
+    all_told key _ _ is by none = absurd is
 
     pub has_computed : (done : ComputedPair T) → HasComputed same hash Is Gives done v w → MapComputed same hash Is Gives done c n
     has_computed done has =
-        let key = has.told.0 in let u = has.before in let run = has.told.2.ran in let there = has.told.2.stays in (
+        let key = has.told.0 in let u = has.before in let run = has.told.2.ran in let there = has.told.2.stays in
+        let its : BegunCall K V = record { began = machine_for same hash run.0 run.1 (Compute key); told = outcome_of (Ok has.answer) } in
+        let within = ap (λ s. section_of s.1 s.0) there.slot ∙ run.3 in (
           has,
           all_told key done has.answer has.so
               (λ became word tells pair lent.
-              has_computed_pair same hash fixed small n.seat.id run.1 w run.0 (record { began = machine_for same hash run.0 run.1 (Compute key); told = outcome_of (Ok has.answer) }) u.calls (there.map ∙ run.2)
-              (ap (λ s. section_of s.1 s.0) there.slot ∙ run.3) run.4 became key has.answer word pair.0 pair.1 refl refl tells lent.0),
+              has_computed_pair same hash fixed small n.seat.id run.1 w run.0 its u.calls (there.map ∙ run.2) within run.4 became key has.answer word pair.0 pair.1 refl refl tells lent.0)
+              (has_aborted same hash fixed small n.seat.id run.1 w run.0 its u.calls (there.map ∙ run.2) within run.4 key has.answer refl refl IsLeft (λ new is. is) (λ old new is. is) (λ word is. is)),
         )
 
     pub has_told : (named : Option ℕ) → HasUpdated same hash Is Gives named v w → MapNamed same hash Is Gives named c n
@@ -218,6 +224,19 @@ module _ {K V S : Type 0} {h : hashing.Ghosts K} (same : K → K → Bool) (hash
   not_tried key value fault run = (
     run,
     has_refused same hash fixed small n.seat.id run.1 w run.0 (begun (TryToInsert key value) (outcome_of (Err fault)) run) v.calls (stays ∙ run.2) (section run.1 run.3) run.4 (TryToInsert key value) refl fault refl refl,
+  )
+
+  pub not_removed_if : (key : K) (fault : Fault) → HasRun same hash (RemoveIf key) (outcome_of (Err fault)) v w → WasRefused same hash (RemoveIf key) fault c n
+  not_removed_if key fault run = (
+    run,
+    has_refused same hash fixed small n.seat.id run.1 w run.0 (begun (RemoveIf key) (outcome_of (Err fault)) run) v.calls (stays ∙ run.2) (section run.1 run.3) run.4 (RemoveIf key) refl fault refl refl,
+  )
+
+  pub not_made : (key : K) (fault : Fault) → HasRun same hash (TryToInsertWith key) (outcome_of (Err fault)) v w → WasRefused same hash (TryToInsertWith key) fault c n
+  not_made key fault run = (
+    run,
+    has_refused same hash fixed small n.seat.id run.1 w run.0 (begun (TryToInsertWith key) (outcome_of (Err fault)) run) v.calls (stays ∙ run.2) (section run.1 run.3) run.4 (TryToInsertWith key) refl fault
+        refl refl,
   )
 
   pub not_removed : (key : K) (fault : Fault) → HasRun same hash (Remove key) (outcome_of (Err fault)) v w → WasRefused same hash (Remove key) fault c n

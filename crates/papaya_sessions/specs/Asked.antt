@@ -1,9 +1,9 @@
 -- What a session has done by a call that asks its caller's closure, and that the pairs which its answer names are those of one finite map.
-use Rattle.std.specs.Prelude.{◌≡◌, ℕ, Bool, Option, Some, Ok, IfSome}
+use Rattle.std.specs.Prelude.{◌≡◌, ℕ, Bool, Option, Some, None, Ok}
 use Rattle.play_moves.specs.Given.ActsActs.{RemoveIf, TryToInsertWith}
 use Rattle.play_moves.specs.Given.ErrandsCalling.{is_put, outcome_of, pair_there}
 use Rattle.play_moves.specs.Given.ErrandsLooking.{HasRun}
-use Rattle.play_moves.specs.OneHistory.Calls.{Became, CameIn, GaveWay, TookItsPlace, WentOut, HasComputedPair, HasOneWith, HasRemovedIfPair}
+use Rattle.play_moves.specs.OneHistory.Calls.{Became, CameIn, GaveWay, TookItsPlace, WentOut, HasAborted, HasComputedPair, HasKept, HasOneWith, HasRemovedIfPair}
 use Rattle.papaya_raw.specs.declared.machines.progress.Answer.{Answer}
 use Rattle.seize_words.specs.declared.operation.Operation.{Operation}
 use Rattle.threads_updates.specs.Given.CallsAnswers.{removed_by}
@@ -34,22 +34,22 @@ module _ {K V S : Type 0} (same : K → K → Bool) (hash : S → K → ℕ) (ke
   abbrev pub HasRemovedIf : Option ℕ → MapCaller K V S → MapCaller K V S → Type 0
   HasRemovedIf taken c n = (answer : Answer) × HasRun same hash (RemoveIf key) (outcome_of (Ok answer)) c.seat.view n.seat.view × (removed_by answer ≡ taken)
 
-  -- and it is what is lent by that word that its map gave up
+  -- and it is what is lent by that word that its map gave up; or this has left it
   abbrev pub MapGaveUpIf : Option ℕ → MapCaller K V S → MapCaller K V S → Type 0
-  MapGaveUpIf taken c n =
-      HasRemovedIf taken c n
-      × IfSome taken (λ word. (pair : K × V) → IsPairLent same hash n word pair → HasRemovedIfPair same hash n.blocks.now.words.fixed n.seat.id n.seat.view key pair)
+  MapGaveUpIf (Some word) c n =
+      HasRemovedIf (Some word) c n × ((pair : K × V) → IsPairLent same hash n word pair → HasRemovedIfPair same hash n.blocks.now.words.fixed n.seat.id n.seat.view key pair)
+  MapGaveUpIf None c n = HasRemovedIf None c n × HasKept same hash n.blocks.now.words.fixed n.seat.id n.seat.view key
 
   -- By the call that it has ended last this became of what is lent by this word,
   abbrev pub BecameSo : Became → ℕ → MapCaller K V S → Type 0
   BecameSo became word n = (pair : K × V) → IsPairLent same hash n word pair → HasComputedPair same hash n.blocks.now.words.fixed n.seat.id n.seat.view became key pair
 
-  -- which is so of the pairs that are named.
+  -- which is so of the pairs that are named; or nothing was to change.
   abbrev pub MapTold : {T : Type 0} → ComputedPair T → MapCaller K V S → Type 0
   MapTold (computed.Inserted new) n = BecameSo CameIn new.word n
   MapTold (computed.Updated old new) n = BecameSo GaveWay old.word n × BecameSo TookItsPlace new.word n
   MapTold (computed.Removed old) n = BecameSo WentOut old.word n
-  MapTold (computed.Aborted end) n = Unit {0}
+  MapTold (computed.Aborted end) n = HasAborted same hash n.blocks.now.words.fixed n.seat.id n.seat.view key
 
 module _ {K V S T : Type 0} (same : K → K → Bool) (hash : S → K → ℕ) (Is : K → Type 0) (Gives : Option (K × V) → Operation V T → Type 0) where
   -- Calls that compute were told what is said; the last one, on a key that is so, has come to this, and the pairs that it names are those of its map:

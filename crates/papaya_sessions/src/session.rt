@@ -6,7 +6,7 @@ ghost use Rattle.std.specs.Iterator.{IsFiniteIterable};
 ghost use Rattle.papaya_sessions.specs.Asked.{MapGaveUpIf, MapHasNamedWith};
 ghost use Rattle.papaya_sessions.specs.Extended.{Extends, PutsPair, RefusesPair, pair_of};
 ghost use Rattle.papaya_sessions.specs.OneMap.{MapCameToHave, MapCounted, MapGaveUp, MapGaveUpNamed, MapHad, MapHadBefore, MapHadOne, MapHadRoom, MapHasNamed, MapLacked, MapLookedEmpty, MapWasCleared, MapWasShown, MapWasSifted, WasRefused};
-ghost use Rattle.papaya_sessions.specs.Sessions.{HasBeenRefused, HasMadeNone};
+ghost use Rattle.papaya_sessions.specs.Sessions.{HasMadeNone};
 ghost use Rattle.play_moves.specs.Given.ActsActs.{Insert, MakeRoom, Remove, RemoveIf, TryToInsert, TryToInsertWith};
 ghost use Rattle.threads_updates.specs.Given.CallsAnswers.{CameBack, clears, has_stored};
 ghost use Rattle.threads_updates.specs.Given.CallsShown.{IsPairLent, Shows};
@@ -191,7 +191,7 @@ impl<'m, K: Eq + Hash + Drop, V: Drop, S: Hashes<K>> Session<'m, K, V, S> {
         ensures tried { IfOk result (λ told. MapHasNamedWith K.eq S.hash key told.1 told.0.word self.old.base.caller self.new.base.caller) }
         ensures shown { IfOk result (λ told. Shows self.new.base.caller told.0.word) }
         ensures asked { HasAsked K.eq S.hash (MakingSays (FnOnceReturns F.FnOnce make tt)) (TryToInsertWith key) self.old.base.caller.seat.view self.new.base.caller.seat.view }
-        ensures refused { IfErr result (λ fault. HasBeenRefused K.eq S.hash (TryToInsertWith key) fault self.old.base.caller self.new.base.caller) }
+        ensures refused { IfErr result (λ fault. WasRefused K.eq S.hash (TryToInsertWith key) fault self.old.base.caller self.new.base.caller) }
     {
         self.base.try_insert_with(rt, key, make)
     }
@@ -209,7 +209,7 @@ impl<'m, K: Eq + Hash + Drop, V: Drop, S: Hashes<K>> Session<'m, K, V, S> {
         ensures removed { IfOk result (λ taken. MapGaveUpIf K.eq S.hash (Q.stands_for key.now) (option_map (λ found. found.word) taken) self.old.base.caller self.new.base.caller) }
         ensures shown { IfOk result (λ taken. IfSome taken (λ found. Shows self.new.base.caller found.word)) }
         ensures asked { HasAsked K.eq S.hash (TestSays (MayTest F.Fn test)) (RemoveIf (Q.stands_for key.now)) self.old.base.caller.seat.view self.new.base.caller.seat.view }
-        ensures refused { IfErr result (λ fault. HasBeenRefused K.eq S.hash (RemoveIf (Q.stands_for key.now)) fault self.old.base.caller self.new.base.caller) }
+        ensures refused { IfErr result (λ fault. WasRefused K.eq S.hash (RemoveIf (Q.stands_for key.now)) fault self.old.base.caller self.new.base.caller) }
     {
         self.base.remove_if(rt, key, test)
     }

@@ -85,10 +85,6 @@ module _ {K V S T : Type 0} (same : K → K → Bool) (hash : S → K → ℕ) (
   abbrev pub HasStopped : Fault → View K V S → View K V S → Type 0
   HasStopped fault v w = (n : ℕ) × (u : View K V S) × HasLeft n v u × HasTriedOnce (Err fault) u w
 
--- it is told the pair that this names, if it names one,
+-- it is told the pair that this names, if it names one
 abbrev pub HasUpdated : {K V S T : Type 0} → (K → K → Bool) → (S → K → ℕ) → (K → Type 0) → (Option (K × V) → Operation V T → Type 0) → Option ℕ → View K V S → View K V S → Type 0
 HasUpdated {T = T} same hash Is Gives named v w = (done : ComputedPair T) × HasComputed same hash Is Gives done v w × (named_by done ≡ named)
-
--- and that it names one in any case
-abbrev pub HasPut : {K V S T : Type 0} → (K → K → Bool) → (S → K → ℕ) → (K → Type 0) → (Option (K × V) → Operation V T → Type 0) → ℕ → View K V S → View K V S → Type 0
-HasPut same hash Is Gives word v w = HasUpdated same hash Is Gives (Some word) v w

@@ -1,12 +1,12 @@
 //! A session's calls that store a value made of the one that is there, or do with its pair what a closure says.
-ghost use Rattle.std.specs.Prelude.{◌≡◌, IfErr, IfNone, IfOk, IfSome, option_map};
+ghost use Rattle.std.specs.Prelude.{◌≡◌, IfErr, IfNone, IfOk, IfSome, Some, option_map};
 ghost use Rattle.std.specs.Fn.{FnReturns, FnReturnsAt};
 ghost use Rattle.threads_calls.specs.Given.SeizeViewsDeclared.view.Has.TheVariants.{Nothing};
 ghost use Rattle.threads_calls.specs.Given.SeizeViewsDeclared.view.SlotView.TheVariants.{Inside};
 ghost use Rattle.threads_calls.specs.Shown.{Shows};
 ghost use Rattle.threads_updates.specs.Deciding.{MayDecide, NewOld, NewOldOr, NewOldOrStop};
 ghost use Rattle.threads_updates.specs.declared.changing.ComputedPair.TheVariants.{Aborted};
-ghost use Rattle.threads_updates.specs.Updated.{HasComputed, HasPut, HasStopped, HasUpdated, ShowsNamed, named_by};
+ghost use Rattle.threads_updates.specs.Updated.{HasComputed, HasStopped, HasUpdated, ShowsNamed, named_by};
 
 use crate::changing::{ComputedPair, changes};
 use crate::deciding::{AnyChange, NewOfOld, NewOrBegun, NewOrThis};
@@ -72,7 +72,7 @@ pub fn update_or_insert<
     requires callable { F.IsAlwaysCallable make.now }
     ensures inside { session.new.caller.seat.view.slot ≡ Inside session.new.slot Nothing }
     ensures slot { session.new.slot ≡ session.old.slot }
-    ensures updated { IfOk result (λ put. HasPut K.eq S.hash (K.is_clone key.now) (NewOldOrStop {T = Unit} (FnReturnsAt F.Fn make.now) (V.is_clone value.now)) put.word session.old.caller.seat.view session.new.caller.seat.view) }
+    ensures updated { IfOk result (λ put. HasUpdated K.eq S.hash (K.is_clone key.now) (NewOldOrStop {T = Unit} (FnReturnsAt F.Fn make.now) (V.is_clone value.now)) (Some put.word) session.old.caller.seat.view session.new.caller.seat.view) }
     ensures shown { IfOk result (λ put. Shows session.new.caller put.word) }
     ensures stopped { IfErr result (λ fault. HasStopped K.eq S.hash (K.is_clone key.now) (NewOldOrStop {T = Unit} (FnReturnsAt F.Fn make.now) (V.is_clone value.now)) fault session.old.caller.seat.view session.new.caller.seat.view) }
     ensures map { session.new.caller.seat.view.map ≡ session.old.caller.seat.view.map }
@@ -107,7 +107,7 @@ pub fn update_or_insert_with<
     requires callable { F.IsAlwaysCallable make.now × B.IsAlwaysCallable begin.now }
     ensures inside { session.new.caller.seat.view.slot ≡ Inside session.new.slot Nothing }
     ensures slot { session.new.slot ≡ session.old.slot }
-    ensures updated { IfOk result (λ put. HasPut K.eq S.hash (K.is_clone key.now) (NewOldOr {T = Unit} (FnReturnsAt F.Fn make.now) (FnReturns B.Fn begin.now tt)) put.word session.old.caller.seat.view session.new.caller.seat.view) }
+    ensures updated { IfOk result (λ put. HasUpdated K.eq S.hash (K.is_clone key.now) (NewOldOr {T = Unit} (FnReturnsAt F.Fn make.now) (FnReturns B.Fn begin.now tt)) (Some put.word) session.old.caller.seat.view session.new.caller.seat.view) }
     ensures shown { IfOk result (λ put. Shows session.new.caller put.word) }
     ensures stopped { IfErr result (λ fault. HasStopped K.eq S.hash (K.is_clone key.now) (NewOldOr {T = Unit} (FnReturnsAt F.Fn make.now) (FnReturns B.Fn begin.now tt)) fault session.old.caller.seat.view session.new.caller.seat.view) }
     ensures map { session.new.caller.seat.view.map ≡ session.old.caller.seat.view.map }

@@ -7,7 +7,7 @@ ghost use Rattle.papaya_sessions.specs.Given.CallsShown.{Shows};
 ghost use Rattle.papaya_sessions.specs.Given.ErrandsAsking.{HasAsked, MakingSays, MayTest, TestSays};
 ghost use Rattle.papaya_sessions.specs.Homes.{OneMap, home_at, home_of};
 ghost use Rattle.papaya_sessions.specs.Kept.{KeepsMap};
-ghost use Rattle.papaya_sessions.specs.Sessions.{HasBeenRefused};
+ghost use Rattle.papaya_sessions.specs.OneMap.{WasRefused};
 ghost use Rattle.seize_words.specs.declared.fault.Fault.TheVariants.{ForeignGuard};
 
 use crate::shared::SharedMap;
@@ -39,7 +39,7 @@ impl<'m, K: Eq + Hash + Drop, V: Drop, S: Hashes<K>> SharedMap<'m, K, V, S> {
         ensures asked { guard.old.number ≡ self.now.number
             → HasAsked K.eq S.hash (MakingSays (FnOnceReturns F.FnOnce make tt)) (TryToInsertWith key) guard.old.base.caller.seat.view guard.new.base.caller.seat.view }
         ensures refused { guard.old.number ≡ self.now.number
-            → IfErr result (λ fault. HasBeenRefused K.eq S.hash (TryToInsertWith key) fault guard.old.base.caller guard.new.base.caller) }
+            → IfErr result (λ fault. WasRefused K.eq S.hash (TryToInsertWith key) fault guard.old.base.caller guard.new.base.caller) }
     {
         if guard.number() != self.number {
             return Err(Fault::ForeignGuard);
@@ -67,7 +67,7 @@ impl<'m, K: Eq + Hash + Drop, V: Drop, S: Hashes<K>> SharedMap<'m, K, V, S> {
         ensures asked { guard.old.number ≡ self.now.number
             → HasAsked K.eq S.hash (TestSays (MayTest F.Fn test)) (RemoveIf (Q.stands_for key.now)) guard.old.base.caller.seat.view guard.new.base.caller.seat.view }
         ensures refused { guard.old.number ≡ self.now.number
-            → IfErr result (λ fault. HasBeenRefused K.eq S.hash (RemoveIf (Q.stands_for key.now)) fault guard.old.base.caller guard.new.base.caller) }
+            → IfErr result (λ fault. WasRefused K.eq S.hash (RemoveIf (Q.stands_for key.now)) fault guard.old.base.caller guard.new.base.caller) }
     {
         if guard.number() != self.number {
             return Err(Fault::ForeignGuard);

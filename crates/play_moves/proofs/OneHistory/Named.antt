@@ -1,4 +1,5 @@
--- The pair that a call's answer names, by the word that links to it, is the one that was stored under the number with which the call is answered in the history.
+-- The pair that a call's answer names, by the word that links to it, is the one that was stored under the number with which the call is answered in the history. And a call that
+-- asks and names none is answered that it has changed none.
 use Rattle.std.specs.Prelude.{◌<◌, ◌^◌, Option, Some, None, if◌then◌else◌}
 use Rattle.std.proofs.Common.{ℕ, Bool, true, false, List, ◌∷◌, inl, inr, refl, sym, subst, ap, ◌≡◌}
 use Rattle.threads_rule.specs.Given.SeizeViewsDeclared.view.Fixed.{Fixed}
@@ -19,7 +20,7 @@ use Rattle.threads_rule.specs.declared.view.BegunCall.{BegunCall}
 use Rattle.threads_rule.specs.declared.view.View.{View}
 use Rattle.threads_rule.specs.Errands.Calling.{pair_there}
 use Rattle.threads_rule.specs.Given.ActsActs.{Wanted, Compute, Insert, RemoveIf, TryToInsertWith}
-use Rattle.run_schedules.specs.Schedules.Sequential.{Answers, Puts, Takes, computes, computes_none, puts_reply, removes_if}
+use Rattle.run_schedules.specs.Schedules.Sequential.{Answers, Leaves, Puts, Takes, computes, computes_none, puts_reply, removes_if}
 use Rattle.run_schedules.specs.declared.call.Response.{Response}
 use Rattle.run_schedules.specs.declared.call.Response.TheVariants as answers
 use Rattle.run_schedules.specs.declared.call.Call.{Call}
@@ -38,8 +39,8 @@ use Rattle.run_legal.specs.Given.EffectsDeclared.role.Role.TheVariants as role
 use Rattle.run_legal.specs.Given.HistoriesEvents.{HasOutcome}
 use Rattle.play_linear.specs.Given.PlayedPlay.{call_for, outcome_of}
 use Rattle.play_moves.specs.OneHistory.Answered.{IsItsEnd}
-use Rattle.play_moves.specs.OneHistory.Calls.{Became, CameIn, TookItsPlace, GaveWay, WentOut, HasComputedPair, HasOneWith, HasRemovedIfPair, HasReplacedPair, ItsCall, WasNamed, computed_so}
-use Rattle.play_moves.proofs.OneHistory.Calls.{by_seen}
+use Rattle.play_moves.specs.OneHistory.Calls.{Became, CameIn, TookItsPlace, GaveWay, WentOut, HasAborted, HasComputedPair, HasKept, HasOneWith, HasRemovedIfPair, HasReplacedPair, ItsCall, WasNamed, computed_so, kept}
+use Rattle.play_moves.proofs.OneHistory.Calls.{by_newest, by_seen}
 use Rattle.run_schedules.proofs.Given.General.{same_some}
 
 -- What a call means that stores a value or removes a pair, as it was replied, is answered so.
@@ -79,6 +80,37 @@ module _ {V : Type 0} (a : Response V) where
   went_out (Some (Aborts x)) p n e = absurd (cc e)
   went_out (Some (Decides x)) p n e = absurd (cc e)
   went_out None p n e = absurd (cc e)
+
+  -- One that changes nothing is answered so.
+  left_so : (reply : Option (Reply V)) (p : ℕ) → removes_if reply p ≡ Answers a Leaves → a ≡ answers.Kept p
+  left_so (Some (Decides false)) p e = let one : answers.Kept p ≡ a = cc e in sym one
+  left_so (Some (Decides true)) p e = absurd (cc e)
+  left_so (Some (Gives x)) p e = absurd (cc e)
+  left_so (Some Removes) p e = absurd (cc e)
+  left_so (Some (Aborts x)) p e = absurd (cc e)
+  left_so None p e = absurd (cc e)
+
+  puts_none : (reply : Option (Reply V)) (p : ℕ) (v : V) → removes_if reply p ≡ Answers a (Puts v) → ⊥
+  puts_none (Some (Decides true)) p v e = absurd (cc e)
+  puts_none (Some (Decides false)) p v e = absurd (cc e)
+  puts_none (Some (Gives x)) p v e = absurd (cc e)
+  puts_none (Some Removes) p v e = absurd (cc e)
+  puts_none (Some (Aborts x)) p v e = absurd (cc e)
+  puts_none None p v e = absurd (cc e)
+
+  aborted_none : (reply : Option (Reply V)) (n : ℕ) → computes_none reply n ≡ Answers a Leaves → (end : V) × (a ≡ answers.Aborted end)
+  aborted_none (Some (Aborts x)) n e = (x, let one : answers.Aborted x ≡ a = cc e in sym one)
+  aborted_none (Some (Gives x)) n e = absurd (cc e)
+  aborted_none (Some Removes) n e = absurd (cc e)
+  aborted_none (Some (Decides x)) n e = absurd (cc e)
+  aborted_none None n e = absurd (cc e)
+
+  aborted_one : (reply : Option (Reply V)) (p n : ℕ) → computes reply p n ≡ Answers a Leaves → (end : V) × (a ≡ answers.Aborted end)
+  aborted_one (Some (Aborts x)) p n e = (x, let one : answers.Aborted x ≡ a = cc e in sym one)
+  aborted_one (Some (Gives x)) p n e = absurd (cc e)
+  aborted_one (Some Removes) p n e = absurd (cc e)
+  aborted_one (Some (Decides x)) p n e = absurd (cc e)
+  aborted_one None p n e = absurd (cc e)
 
 -- an answer tells this of the pair of this word
 abbrev pub TellsOf : Became → ℕ → Said → Type 0
@@ -144,6 +176,32 @@ module _ {K V : Type 0} (known : Known) where
     became_so WentOut key word (said.Key (says.Removed old)) _ comes is = absurd comes
     became_so _ key word _ o comes is = absurd is
 
+    -- Where none was removed, none was to be, or there was none;
+    kept_so : (key : K) (it : Said) (o : Outcome V) → HasOutcome known (one_key.RemoveIf key) replies (progress.Done it) o → (Left : Said → Type 0) → ((word : ℕ) → Left (said.Key (says.Removed word)) → ⊥)
+        → Left it → (pair : Option ℕ) × (o ≡ Answered (kept pair))
+    kept_so key (said.Key says.Absent) (Answered a) (inl means) Left no left = (None, ap Answered (let is = means 0 in let one : answers.Absent ≡ a = cc is in sym one))
+    kept_so key (said.Key (says.Found word)) (Answered a) (inl (n, names, means)) Left no left = (Some n, ap Answered (left_so a _ n (means 0)))
+    kept_so key (said.Key (says.Removed word)) o comes Left no left = absurd (no word left)
+    kept_so key (said.Key (says.Stored new)) (Answered a) (inr (n, names, v, means)) Left no left = absurd (cc means)
+    kept_so key (said.Key (says.Replaced old new)) (Answered a) (inr (o, n, was, names, v, means)) Left no left = absurd (puts_none a _ o v means)
+    kept_so key (said.Key says.Absent) (Answered a) (inr done) Left no left = absurd done
+    kept_so key (said.Key (says.Found word)) (Answered a) (inr done) Left no left = absurd done
+    kept_so key (said.Key (says.Stored new)) (Answered a) (inl so) Left no left = absurd so
+    kept_so key (said.Key (says.Replaced old new)) (Answered a) (inl so) Left no left = absurd so
+    kept_so key _ _ comes Left no left = absurd comes
+
+    -- and where a closure has changed nothing, it has said so.
+    aborted_so : (key : K) (it : Said) (o : Outcome V) → HasOutcome known (one_key.Compute key) replies (progress.Done it) o → (Left : Said → Type 0) → ((new : ℕ) → Left (said.Key (says.Stored new)) → ⊥)
+        → ((old new : ℕ) → Left (said.Key (says.Replaced old new)) → ⊥) → ((word : ℕ) → Left (said.Key (says.Removed word)) → ⊥) → Left it → (end : V) × (o ≡ Answered (answers.Aborted end))
+    aborted_so key (said.Key says.Absent) (Answered a) (inl means) Left none other gone left = let is = aborted_none a _ 0 (means 0) in (is.0, ap Answered is.1)
+    aborted_so key (said.Key (says.Found word)) (Answered a) (inl (n, names, means)) Left none other gone left = let is = aborted_one a _ n 0 (means 0) in (is.0, ap Answered is.1)
+    aborted_so key (said.Key (says.Stored new)) o comes Left none other gone left = absurd (none new left)
+    aborted_so key (said.Key (says.Replaced old new)) o comes Left none other gone left = absurd (other old new left)
+    aborted_so key (said.Key (says.Removed word)) o comes Left none other gone left = absurd (gone word left)
+    aborted_so key (said.Key says.Absent) (Answered a) (inr done) Left none other gone left = absurd done
+    aborted_so key (said.Key (says.Found word)) (Answered a) (inr done) Left none other gone left = absurd done
+    aborted_so key _ _ comes Left none other gone left = absurd comes
+
 module _ {K V S : Type 0} (same : K → K → Bool) (hash : S → K → ℕ) (fixed : Fixed) (small : fixed.batch_size < 2 ^ 64) (id t : ℕ) (v : View K V S) (map : Map S) (run : BegunCall K V)
     (before : List (BegunCall K V)) (knows : v.map ≡ Some map) (section : section_of v.under v.slot ≡ Some t) (calls_are : v.calls ≡ run ∷ before) where
   -- A call on one key has ended, and the seat shows the pair of a word with which it has answered.
@@ -193,3 +251,25 @@ module _ {K V S : Type 0} (same : K → K → Bool) (hash : S → K → ℕ) (fi
   has_computed_pair became key it word stored value began told tells shown =
       named (one_key.Compute key) (Compute key) refl refl it began told word stored value shown (computed_so became) (λ known replies o comes. became_so known replies became key word it o comes tells)
       (λ i m log e. (other : ℕ) × WasNamed same i m (On (one_key.Compute key)) (computed_so became other) (stored, value) log e) (λ i m log e a so. (a, so))
+
+  -- It has left the pair of a key, of which no test said yes, or there was none,
+  pub has_kept : (key : K) (it : Said) → run.began ≡ machine_for same hash map t (RemoveIf key) → run.told ≡ progress.Done it → (Left : Said → Type 0)
+      → ((word : ℕ) → Left (said.Key (says.Removed word)) → ⊥) → Left it → HasKept same hash fixed id v key
+  has_kept key it began told Left no left =
+      by_newest same hash fixed small id t v map run before knows section calls_are (RemoveIf key) refl began (ap has_ended told)
+      (λ i m log e. (pair : Option ℕ) × IsItsEnd same i m (On (one_key.RemoveIf key)) (Answered (kept pair)) log e) (λ log e ends.
+      let o = outcome_of ends.0 (kind_of (call_for {K = K} {V = V} (RemoveIf key))) ends.1 run.told in
+      let on = ends.4 (one_key.RemoveIf key) refl in
+      let by = kept_so ends.0 on.0 key it o (subst (λ (p : Progress (Node K V)). HasOutcome ends.0 (one_key.RemoveIf key) on.0 p o) told on.1) Left no left in
+      (by.0, subst (λ (a : Outcome V). IsItsEnd same (caller_at id t) map.number (On (one_key.RemoveIf key)) a log e) by.1 ends.2))
+
+  -- or was to change nothing.
+  pub has_aborted : (key : K) (it : Said) → run.began ≡ machine_for same hash map t (Compute key) → run.told ≡ progress.Done it → (Left : Said → Type 0) → ((new : ℕ) → Left (said.Key (says.Stored new)) → ⊥)
+      → ((old new : ℕ) → Left (said.Key (says.Replaced old new)) → ⊥) → ((word : ℕ) → Left (said.Key (says.Removed word)) → ⊥) → Left it → HasAborted same hash fixed id v key
+  has_aborted key it began told Left none other gone left =
+      by_newest same hash fixed small id t v map run before knows section calls_are (Compute key) refl began (ap has_ended told)
+      (λ i m log e. (end : V) × IsItsEnd same i m (On (one_key.Compute key)) (Answered (answers.Aborted end)) log e) (λ log e ends.
+      let o = outcome_of ends.0 (kind_of (call_for {K = K} {V = V} (Compute key))) ends.1 run.told in
+      let on = ends.4 (one_key.Compute key) refl in
+      let by = aborted_so ends.0 on.0 key it o (subst (λ (p : Progress (Node K V)). HasOutcome ends.0 (one_key.Compute key) on.0 p o) told on.1) Left none other gone left in
+      (by.0, subst (λ (a : Outcome V). IsItsEnd same (caller_at id t) map.number (On (one_key.Compute key)) a log e) by.1 ends.2))

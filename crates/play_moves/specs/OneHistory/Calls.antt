@@ -1,5 +1,5 @@
 -- What a seat may say of its newest call: what that was told is what one finite map means. So a public call says it in its own clause.
-use Rattle.std.specs.Prelude.{◌≡◌, ℕ, Bool, List, ◌∷◌, Option, Some, is_some, if◌then◌else◌}
+use Rattle.std.specs.Prelude.{◌≡◌, ℕ, Bool, List, ◌∷◌, Option, Some, None, is_some, if◌then◌else◌}
 use Rattle.threads_rule.specs.Given.SeizeSeatsState.{State, view_of}
 use Rattle.threads_rule.specs.Given.SeizeViewsDeclared.view.Fixed.{Fixed}
 use Rattle.run_schedules.specs.Given.SeizeWordsDeclared.fault.Fault.{Fault}
@@ -36,6 +36,11 @@ computed_so CameIn other number = answers.Inserted number
 computed_so TookItsPlace other number = answers.Updated other number
 computed_so GaveWay other number = answers.Updated number other
 computed_so WentOut other number = answers.Removed number
+
+-- the pair that stays, or that there is none
+abbrev pub kept : {V : Type 0} → Option ℕ → Response V
+kept None = answers.Absent
+kept (Some number) = answers.Kept number
 
 module _ {K V : Type 0} (same : K → K → Bool) where
   -- By this entry the caller's call on this map ends: it is answered so with the number of a pair, under which this is stored.
@@ -108,9 +113,17 @@ module _ {K V S : Type 0} (same : K → K → Bool) (hash : S → K → ℕ) (fi
   abbrev pub HasRemovedIfPair : K → K × V → Type 0
   HasRemovedIfPair key pair = ItsCall (λ i m. WasNamed same i m (On (RemoveIf key)) answers.Found pair)
 
+  -- It has left it, as no test said yes of it, or there was none.
+  abbrev pub HasKept : K → Type 0
+  HasKept key = ItsCall (λ i m log e. (pair : Option ℕ) × IsItsEnd same i m (On (RemoveIf key)) (Answered (kept pair)) log e)
+
   -- It has done with this key what a closure has said, and this became of this pair.
   abbrev pub HasComputedPair : Became → K → K × V → Type 0
   HasComputedPair became key pair = ItsCall (λ i m log e. (other : ℕ) × WasNamed same i m (On (Compute key)) (computed_so became other) pair log e)
+
+  -- It was to change nothing.
+  abbrev pub HasAborted : K → Type 0
+  HasAborted key = ItsCall (λ i m log e. (end : V) × IsItsEnd same i m (On (Compute key)) (Answered (answers.Aborted end)) log e)
 
   -- It was refused so, whatever it wanted.
   abbrev pub HasRefused : Wanted K V → Fault → Type 0
