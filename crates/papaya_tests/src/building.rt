@@ -1,27 +1,16 @@
 //! How maps are built, and why one is refused: the first reason that there is; and two threads that meet within closures in one that was built.
-use papaya_map::{Collector, Fault, HashMap, IdSource, Operation, ResizeMode, Session};
+use crate::{Hashing, LOOKS, Map, Own, Told};
+use papaya::{Collector, Fault, HashMap, IdSource, Operation, ResizeMode};
 use std::alloc::Global;
-use std::hash::{BuildHasherDefault, DefaultHasher, RandomState};
+use std::hash::RandomState;
 use std::sync::Wait;
 use std::sync::atomic::AtomicU64;
 use std::sync::atomic::Ordering::SeqCst;
-use std::test::Fail;
 use std::thread::{self, Threads};
 use std::time::{Clock, Duration};
 
-/// How often a closure looks for the other one, a millisecond apart.
-const LOOKS: u64 = 20_000;
-
-pub(crate) type Hashing = BuildHasherDefault<DefaultHasher>;
-
-pub(crate) type Map = HashMap<u64, u64, Hashing>;
-
-pub(crate) type Own<'m> = Session<'m, u64, u64, Hashing>;
-
-pub(crate) type Told<T> = Result<T, Fault>;
-
-/// Whether each reason comes before those that follow it, a source of two numbers still has both afterwards, and a builder shows what was chosen.
-fn reasons(alloc: Global, one: RandomState, other: RandomState) -> Told<[bool; 8]> {
+/// Tells whether each reason comes before those that follow it, a source of two numbers still has both afterwards, and a builder shows what was chosen.
+pub(crate) fn reasons(alloc: Global, one: RandomState, other: RandomState) -> Told<bool> {
     let mut ids = IdSource::starting_at(u64::MAX - 2);
     let builder = Map::builder(Hashing::default()).capacity(u64::MAX);
     let shown = format!(in alloc; "{builder:?}")?;
@@ -33,7 +22,7 @@ fn reasons(alloc: Global, one: RandomState, other: RandomState) -> Told<[bool; 8
     let last = Map::with_capacity_and_hasher(alloc, &mut ids, 100, Hashing::default());
     let none = Map::with_hasher(alloc, &mut ids, Hashing::default());
     let new = HashMap::<u64, u64>::new(alloc, &mut ids, other);
-    Ok([
+    let so = [
         shown.as_str()
             == "HashMapBuilder { capacity: 18446744073709551615, collector: None, resize_mode: Incremental(64) }",
         matches!(many, Err(Fault::Capacity)),
@@ -43,18 +32,12 @@ fn reasons(alloc: Global, one: RandomState, other: RandomState) -> Told<[bool; 8
         last.is_ok(),
         matches!(none, Err(Fault::CollectorsUsedUp)),
         matches!(new, Err(Fault::CollectorsUsedUp)),
-    ])
-}
-
-#[test]
-fn the_first_reason_refuses_a_map(rt: HostRuntime) -> Result<(), Fail> {
-    let (hasher, other) = (RandomState::new(&rt)?, RandomState::new(&rt)?);
-    assert_eq!(rt; reasons(rt.alloc(), hasher, other)?, [true; 8]);
-    Ok(())
+    ];
+    Ok(so == [true; 8])
 }
 
 /// A map of this mode, which was built with all that can be chosen: also of batches of one block, and two shards.
-pub(crate) fn built(alloc: Global, hasher: RandomState, mode: ResizeMode) -> Told<Map> {
+fn built(alloc: Global, hasher: RandomState, mode: ResizeMode) -> Told<Map> {
     let mut ids = IdSource::new();
     let collector = Collector::new(&mut ids, 1, 4)?.batch_size(1);
     let builder = HashMap::builder(hasher)
@@ -92,8 +75,14 @@ fn computes<R: Wait + Clock>(
     Ok(map.get(rt, &key).copied())
 }
 
-/// Two threads do so, each at a key of its own.
-fn both<R: Threads + Wait + Clock + Sync>(rt: &R, map: &Map) -> Told<[Option<u64>; 2]> {
+/// Tells whether two threads do so, each at a key of its own, and meet. Were one call served after another, the closure of the first would never see the flag of the second.
+pub(crate) fn meet<R: Threads + Wait + Clock + Sync>(
+    rt: &R,
+    alloc: Global,
+    hasher: RandomState,
+    mode: ResizeMode,
+) -> Told<bool> {
+    let map = built(alloc, hasher, mode)?;
     let (first, second) = (map.session()?, map.session()?);
     let (one, other) = (AtomicU64::new(0), AtomicU64::new(0));
     let (a, b) = thread::join(
@@ -101,16 +90,5 @@ fn both<R: Threads + Wait + Clock + Sync>(rt: &R, map: &Map) -> Told<[Option<u64
         || computes(rt, first, 1, &one, &other),
         || computes(rt, second, 2, &other, &one),
     );
-    Ok([a?, b?])
-}
-
-// Were one call served after another, the closure of the first would never see the flag of the second.
-#[test]
-fn two_calls_ask_their_closures_at_a_time(rt: HostRuntime) -> Result<(), Fail> {
-    for mode in [ResizeMode::Incremental(1), ResizeMode::Blocking] {
-        let map = built(rt.alloc(), RandomState::new(&rt)?, mode)?;
-        let met = both(&rt, &map)?;
-        assert_eq!(rt; met, [Some(1); 2]);
-    }
-    Ok(())
+    Ok([a?, b?] == [Some(1); 2])
 }

@@ -1,0 +1,122 @@
+//! Says of the map and the set that threads share what they were seen to do, a line each: of both modes, by one session and by several threads at a time. Each line of the
+//! input is a row of calls on a new map, or a new set, and what they answer. Ends with an error where one line is not so.
+#![tactic(auto)]
+
+mod building;
+mod copying;
+mod foreign;
+mod keys;
+mod opening;
+mod passing;
+mod rows;
+mod sets;
+mod whole;
+
+use papaya::{Fault, HashMap, IdSource, ResizeMode, Session, SharedMap};
+use std::alloc::Global;
+use std::hash::{BuildHasherDefault, DefaultHasher, RandomState};
+use std::io;
+use std::sync::Wait;
+use std::thread::Threads;
+use std::time::Clock;
+
+type Hashing = BuildHasherDefault<DefaultHasher>;
+
+type Map = HashMap<u64, u64, Hashing>;
+
+type Lent<'m> = SharedMap<'m, u64, u64, Hashing>;
+
+type Own<'m> = Session<'m, u64, u64, Hashing>;
+
+type Told<T> = Result<T, Fault>;
+
+/// How a map comes to its next tables.
+const MODES: [ResizeMode; 2] = [ResizeMode::Incremental(1), ResizeMode::Blocking];
+
+/// How often one thread looks for what another one leaves, a millisecond apart.
+const LOOKS: u64 = 20_000;
+
+/// A map of this mode.
+fn made(alloc: Global, mode: ResizeMode) -> Told<Map> {
+    let builder = HashMap::builder(Hashing::default()).resize_mode(mode);
+    builder.build(alloc, &mut IdSource::new())
+}
+
+/// One more than a count.
+fn more(count: &u64) -> u64 {
+    u64::wrapping_add(*count, 1)
+}
+
+/// Prints whether this is so, or why that can't be said.
+fn tells<R: Print>(rt: &R, what: &str, is_so: Told<bool>) -> io::Result<bool> {
+    match is_so {
+        Ok(is_so) => {
+            println!(rt; "{what}: {is_so}")?;
+            Ok(is_so)
+        }
+        Err(fault) => {
+            println!(rt; "{what}: {fault}")?;
+            Ok(false)
+        }
+    }
+}
+
+/// Prints what is so of maps and sets of this mode, and answers whether all is.
+fn of_mode<R: Threads + Wait + Clock + RandomSource + Sync + Print>(
+    rt: &R,
+    alloc: Global,
+    mode: ResizeMode,
+) -> io::Result<bool> {
+    println!(rt; "{mode:?}")?;
+    let set = sets::built(alloc, RandomState::new(rt)?, mode)?;
+    let closures = building::meet(rt, alloc, RandomState::new(rt)?, mode);
+    let so = [
+        tells(rt, "of two calls on a key one comes first", keys::meet(rt, alloc, mode))?,
+        tells(rt, "no count is lost where two count", keys::count(rt, alloc, mode))?,
+        tells(rt, "two calls ask their closures at a time", closures)?,
+        tells(rt, "a map has many pairs", whole::has_many(rt, alloc, mode))?,
+        tells(rt, "keys are found while room is made", whole::grows(rt, alloc, mode))?,
+        tells(rt, "two walks show what stays, and meet", whole::meet(rt, alloc, mode))?,
+        tells(rt, "a map is cleared while pairs come", whole::clears(rt, alloc, mode))?,
+        tells(rt, "two passes meet under one guard", passing::meet(rt, alloc, mode))?,
+        tells(rt, "no pass is led back", passing::follow(rt, alloc, mode))?,
+        tells(rt, "two settle on one value", passing::settle(rt, alloc, mode))?,
+        tells(rt, "of two calls on an element one comes first", sets::change(rt, &set))?,
+        tells(rt, "passes and walks of a set meet", sets::meet(rt, &set))?,
+    ];
+    Ok(so == [true; 12])
+}
+
+/// Prints what is so of maps and sets whatever their mode is, and answers whether all is.
+fn of_any<R: Threads + Wait + RandomSource + Sync + Print>(
+    rt: &R,
+    alloc: Global,
+) -> io::Result<bool> {
+    let reasons = building::reasons(alloc, RandomState::new(rt)?, RandomState::new(rt)?);
+    let made = sets::made(alloc, RandomState::new(rt)?, RandomState::new(rt)?);
+    let so = [
+        tells(rt, "the first reason refuses a map", reasons)?,
+        tells(rt, "a set is refused a number that is not there", made)?,
+        tells(rt, "what a session has stored stays", opening::stays(rt, alloc))?,
+        tells(rt, "a clone is the same until one changes", copying::copies(rt, alloc))?,
+        tells(rt, "lookups refuse what is of another map", foreign::looks(rt, alloc))?,
+        tells(rt, "changes refuse what is of another map", foreign::stores(rt, alloc))?,
+        tells(rt, "a set refuses what is of another one", sets::foreign(rt, alloc))?,
+    ];
+    Ok(so == [true; 7])
+}
+
+fn main(rt: HostRuntime) -> io::Result<()> {
+    let alloc = rt.alloc();
+    let mut is_so = of_any(&rt, alloc)?;
+    for mode in MODES {
+        is_so = of_mode(&rt, alloc, mode)? && is_so;
+    }
+    for line in rt.lines(alloc) {
+        is_so = rows::row(&rt, alloc, line?.as_str())? && is_so;
+    }
+    if is_so {
+        return Ok(());
+    }
+    Err(io::Error::other("a line is not so"))
+}
