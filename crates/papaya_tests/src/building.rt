@@ -37,10 +37,10 @@ pub(crate) fn reasons(alloc: Global, one: RandomState, other: RandomState) -> To
 }
 
 /// A map of this mode, which was built with all that can be chosen: also of batches of one block, and two shards.
-fn built(alloc: Global, hasher: RandomState, mode: ResizeMode) -> Told<Map> {
+pub(crate) fn built(alloc: Global, mode: ResizeMode) -> Told<Map> {
     let mut ids = IdSource::new();
     let collector = Collector::new(&mut ids, 1, 4)?.batch_size(1);
-    let builder = HashMap::builder(hasher)
+    let builder = HashMap::builder(Hashing::default())
         .hasher(Hashing::default())
         .capacity(10);
     let builder = builder.collector(collector).shards(2).resize_mode(mode);
@@ -76,13 +76,8 @@ fn computes<R: Wait + Clock>(
 }
 
 /// Tells whether two threads do so, each at a key of its own, and meet. Were one call served after another, the closure of the first would never see the flag of the second.
-pub(crate) fn meet<R: Threads + Wait + Clock + Sync>(
-    rt: &R,
-    alloc: Global,
-    hasher: RandomState,
-    mode: ResizeMode,
-) -> Told<bool> {
-    let map = built(alloc, hasher, mode)?;
+pub(crate) fn meet<R: Threads + Wait + Clock + Sync>(rt: &R, made: Told<Map>) -> Told<bool> {
+    let map = made?;
     let (first, second) = (map.session()?, map.session()?);
     let (one, other) = (AtomicU64::new(0), AtomicU64::new(0));
     let (a, b) = thread::join(

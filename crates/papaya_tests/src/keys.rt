@@ -1,8 +1,7 @@
 //! Two threads call on the same keys, and on keys of their own: of two calls on a key one comes first, whoever is faster. A body that served one thread after the other would
 //! pass, too.
-use crate::{Map, Own, Told, made, more};
-use papaya::{Attempt, ResizeMode};
-use std::alloc::Global;
+use crate::{Map, Own, Told, more, with};
+use papaya::Attempt;
 use std::sync::Wait;
 use std::thread::{self, Threads};
 
@@ -11,11 +10,6 @@ const KEYS: u64 = 64;
 
 /// How often each of two threads counts.
 const TURNS: u64 = 1_000;
-
-/// The bits of the keys so far, and one for the next key.
-fn with(bits: u64, next: bool) -> u64 {
-    u64::wrapping_add(u64::wrapping_mul(bits, 2), u64::from(next))
-}
 
 /// Stores each key with this value: which of them have replaced a pair.
 fn stores<R: Wait>(rt: &R, mut session: Own<'_>, value: u64) -> Told<u64> {
@@ -94,12 +88,8 @@ fn changed<R: Threads + Wait + Sync>(rt: &R, map: &Map) -> Told<[u64; 7]> {
 }
 
 /// Tells whether all that is so of each key.
-pub(crate) fn meet<R: Threads + Wait + Sync>(
-    rt: &R,
-    alloc: Global,
-    mode: ResizeMode,
-) -> Told<bool> {
-    let map = made(alloc, mode)?;
+pub(crate) fn meet<R: Threads + Wait + Sync>(rt: &R, made: Told<Map>) -> Told<bool> {
+    let map = made?;
     Ok(changed(rt, &map)? == [u64::MAX; 7])
 }
 
@@ -122,13 +112,9 @@ fn counted<R: Threads + Wait + Sync>(rt: &R, map: &Map, bits: u64) -> Told<u64> 
     Ok(sum)
 }
 
-/// Tells whether no count is lost where two threads count, at one key and at sixteen.
-pub(crate) fn count<R: Threads + Wait + Sync>(
-    rt: &R,
-    alloc: Global,
-    mode: ResizeMode,
-) -> Told<bool> {
-    let (few, many) = (made(alloc, mode)?, made(alloc, mode)?);
-    let sums = [counted(rt, &few, 0)?, counted(rt, &many, 15)?];
-    Ok(sums == [2 * TURNS; 2])
+/// Tells whether no count is lost where two threads count, at one key, and then at sixteen.
+pub(crate) fn count<R: Threads + Wait + Sync>(rt: &R, made: Told<Map>) -> Told<bool> {
+    let map = made?;
+    let sums = [counted(rt, &map, 0)?, counted(rt, &map, 15)?];
+    Ok(sums == [2 * TURNS, 4 * TURNS])
 }

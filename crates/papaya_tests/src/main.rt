@@ -16,6 +16,7 @@ use papaya::{Fault, HashMap, IdSource, ResizeMode, Session, SharedMap};
 use std::alloc::Global;
 use std::hash::{BuildHasherDefault, DefaultHasher, RandomState};
 use std::io;
+use std::random::RandomSource;
 use std::sync::Wait;
 use std::thread::Threads;
 use std::time::Clock;
@@ -61,28 +62,71 @@ fn tells<R: Print>(rt: &R, what: &str, is_so: Told<bool>) -> io::Result<bool> {
     }
 }
 
+/// The bits of the keys so far, and one for the next key.
+fn with(bits: u64, next: bool) -> u64 {
+    u64::wrapping_add(u64::wrapping_mul(bits, 2), u64::from(next))
+}
+
 /// Prints what is so of maps and sets of this mode, and answers whether all is.
-fn of_mode<R: Threads + Wait + Clock + RandomSource + Sync + Print>(
+fn of_mode<R: Threads + Wait + Clock + Sync + Print>(
     rt: &R,
     alloc: Global,
     mode: ResizeMode,
 ) -> io::Result<bool> {
     println!(rt; "{mode:?}")?;
-    let set = sets::built(alloc, RandomState::new(rt)?, mode)?;
-    let closures = building::meet(rt, alloc, RandomState::new(rt)?, mode);
     let so = [
-        tells(rt, "of two calls on a key one comes first", keys::meet(rt, alloc, mode))?,
-        tells(rt, "no count is lost where two count", keys::count(rt, alloc, mode))?,
-        tells(rt, "two calls ask their closures at a time", closures)?,
-        tells(rt, "a map has many pairs", whole::has_many(rt, alloc, mode))?,
-        tells(rt, "keys are found while room is made", whole::grows(rt, alloc, mode))?,
-        tells(rt, "two walks show what stays, and meet", whole::meet(rt, alloc, mode))?,
-        tells(rt, "a map is cleared while pairs come", whole::clears(rt, alloc, mode))?,
-        tells(rt, "two passes meet under one guard", passing::meet(rt, alloc, mode))?,
-        tells(rt, "no pass is led back", passing::follow(rt, alloc, mode))?,
-        tells(rt, "two settle on one value", passing::settle(rt, alloc, mode))?,
-        tells(rt, "of two calls on an element one comes first", sets::change(rt, &set))?,
-        tells(rt, "passes and walks of a set meet", sets::meet(rt, &set))?,
+        tells(
+            rt,
+            "calls on a key are in turn",
+            keys::meet(rt, made(alloc, mode)),
+        )?,
+        tells(rt, "no count is lost", keys::count(rt, made(alloc, mode)))?,
+        tells(
+            rt,
+            "closures meet",
+            building::meet(rt, building::built(alloc, mode)),
+        )?,
+        tells(
+            rt,
+            "a map has many pairs",
+            whole::has_many(rt, made(alloc, mode)),
+        )?,
+        tells(
+            rt,
+            "keys stay while room is made",
+            whole::grows(rt, made(alloc, mode)),
+        )?,
+        tells(
+            rt,
+            "walks show what stays, and meet",
+            whole::meet(rt, made(alloc, mode)),
+        )?,
+        tells(
+            rt,
+            "clearing leaves what came later",
+            whole::clears(rt, made(alloc, mode)),
+        )?,
+        tells(rt, "passes meet", passing::meet(rt, made(alloc, mode)))?,
+        tells(
+            rt,
+            "no pass is led back",
+            passing::follow(rt, made(alloc, mode)),
+        )?,
+        tells(
+            rt,
+            "two settle on one value",
+            passing::settle(rt, made(alloc, mode)),
+        )?,
+        tells(
+            rt,
+            "calls on an element are in turn",
+            sets::change(rt, sets::built(alloc, mode)),
+        )?,
+        tells(
+            rt,
+            "passes and walks of a set meet",
+            sets::meet(rt, sets::built(alloc, mode)),
+        )?,
     ];
     Ok(so == [true; 12])
 }
@@ -92,16 +136,44 @@ fn of_any<R: Threads + Wait + RandomSource + Sync + Print>(
     rt: &R,
     alloc: Global,
 ) -> io::Result<bool> {
-    let reasons = building::reasons(alloc, RandomState::new(rt)?, RandomState::new(rt)?);
-    let made = sets::made(alloc, RandomState::new(rt)?, RandomState::new(rt)?);
+    let (one, other) = (RandomState::new(rt)?, RandomState::new(rt)?);
+    let (third, last) = (RandomState::new(rt)?, RandomState::new(rt)?);
     let so = [
-        tells(rt, "the first reason refuses a map", reasons)?,
-        tells(rt, "a set is refused a number that is not there", made)?,
-        tells(rt, "what a session has stored stays", opening::stays(rt, alloc))?,
-        tells(rt, "a clone is the same until one changes", copying::copies(rt, alloc))?,
-        tells(rt, "lookups refuse what is of another map", foreign::looks(rt, alloc))?,
-        tells(rt, "changes refuse what is of another map", foreign::stores(rt, alloc))?,
-        tells(rt, "a set refuses what is of another one", sets::foreign(rt, alloc))?,
+        tells(
+            rt,
+            "the first reason refuses a map",
+            building::reasons(alloc, one, other),
+        )?,
+        tells(
+            rt,
+            "no set has a number used up",
+            sets::made(alloc, third, last),
+        )?,
+        tells(
+            rt,
+            "what a session has stored stays",
+            opening::stays(rt, alloc),
+        )?,
+        tells(
+            rt,
+            "a clone is the same until one changes",
+            copying::copies(rt, alloc),
+        )?,
+        tells(
+            rt,
+            "lookups refuse what is of another map",
+            foreign::looks(rt, alloc),
+        )?,
+        tells(
+            rt,
+            "changes refuse what is of another map",
+            foreign::stores(rt, alloc),
+        )?,
+        tells(
+            rt,
+            "a set refuses what is of another one",
+            sets::foreign(rt, alloc),
+        )?,
     ];
     Ok(so == [true; 7])
 }

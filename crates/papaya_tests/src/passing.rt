@@ -2,9 +2,8 @@
 //! key, which both are lent.
 ghost use Rattle.std.specs.Prelude.{◌≡◌};
 
-use crate::{Hashing, LOOKS, Lent, Own, Told, made};
-use papaya::{Pass, ResizeMode};
-use std::alloc::Global;
+use crate::{Hashing, LOOKS, Lent, Map, Own, Told};
+use papaya::Pass;
 use std::sync::Wait;
 use std::thread::{self, Threads};
 use std::time::{Clock, Duration};
@@ -51,12 +50,8 @@ fn leaves<R: Wait + Clock>(rt: &R, map: &Lent<'_>, guard: &Own<'_>, key: u64) ->
 
 /// Tells whether two threads do so under one guard. Were they served one after another, or one pass under the guard at a time, the first would not find the key of the
 /// second.
-pub(crate) fn meet<R: Threads + Wait + Clock + Sync>(
-    rt: &R,
-    alloc: Global,
-    mode: ResizeMode,
-) -> Told<bool> {
-    let made = made(alloc, mode)?;
+pub(crate) fn meet<R: Threads + Wait + Clock + Sync>(rt: &R, made: Told<Map>) -> Told<bool> {
+    let made = made?;
     let map = made.shared();
     let guard = map.session()?;
     let (one, other) = thread::join(
@@ -85,12 +80,8 @@ fn follows<R: Wait + Clock>(rt: &R, guard: &Own<'_>, key: u64) -> Told<bool> {
 }
 
 /// Tells whether two threads do so under one guard, while a third one replaces the values.
-pub(crate) fn follow<R: Threads + Wait + Clock + Sync>(
-    rt: &R,
-    alloc: Global,
-    mode: ResizeMode,
-) -> Told<bool> {
-    let made = made(alloc, mode)?;
+pub(crate) fn follow<R: Threads + Wait + Clock + Sync>(rt: &R, made: Told<Map>) -> Told<bool> {
+    let made = made?;
     let map = made.shared();
     let guard = map.session()?;
     let (done, (one, other)) = thread::join(
@@ -111,12 +102,8 @@ fn settles<R: Wait>(rt: &R, mut session: Own<'_>, value: u64) -> Told<u64> {
 }
 
 /// Tells whether two threads do so, and are lent the same values, one of the two for each key. A body that lends each its own value gives two sums.
-pub(crate) fn settle<R: Threads + Wait + Sync>(
-    rt: &R,
-    alloc: Global,
-    mode: ResizeMode,
-) -> Told<bool> {
-    let map = made(alloc, mode)?;
+pub(crate) fn settle<R: Threads + Wait + Sync>(rt: &R, made: Told<Map>) -> Told<bool> {
+    let map = made?;
     let (first, second) = (map.session()?, map.session()?);
     let (one, other) = thread::join(rt, || settles(rt, first, 1), || settles(rt, second, 2));
     let (one, other) = (one?, other?);

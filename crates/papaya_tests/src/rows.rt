@@ -1,6 +1,7 @@
 //! Rows of calls and what they answer, on a new map of each mode, or a new set: `NAME: CALL = ANSWER; CALL = ANSWER`, and a set's name begins so. A call is a word and up to
 //! two numbers. Where it is refused the name of the fault is its answer, and where it asked a closure for a value `asked` follows.
-use crate::{MODES, Own, Told, made, more, sets};
+use crate::sets::{self, Own as Set};
+use crate::{MODES, Own, Told, made, more};
 use papaya::{Attempt, ComputedPair, Operation, ResizeMode};
 use std::alloc::Global;
 use std::io;
@@ -9,9 +10,18 @@ use std::sync::atomic::AtomicU64;
 use std::sync::atomic::Ordering::SeqCst;
 
 /// A session on which the calls of a row are made.
+#[derive(Drop)]
 enum On<'m> {
     Map(Own<'m>),
-    Set(sets::Own<'m>),
+    Set(Set<'m>),
+}
+
+/// A call of a row.
+#[derive(Clone, Copy)]
+struct Call<'c> {
+    name: &'c str,
+    key: u64,
+    value: u64,
 }
 
 /// A value, or that there is none.
@@ -42,44 +52,32 @@ fn list(alloc: Global, mut keys: Vec<u64>) -> Told<String> {
 }
 
 /// What a map answers to a call on one key.
-fn of_key<R: Wait>(
-    rt: &R,
-    alloc: Global,
-    map: &mut Own<'_>,
-    call: &str,
-    key: u64,
-    value: u64,
-) -> Told<String> {
-    match call {
+fn of_key<R: Wait>(rt: &R, alloc: Global, map: &mut Own<'_>, call: &Call<'_>) -> Told<String> {
+    let (key, value) = (call.key, call.value);
+    match call.name {
         "get" => one(alloc, map.get(rt, &key)),
         "get_key_value" => pair(alloc, map.pin().get_key_value(rt, &key)),
         "contains_key" => so(alloc, map.contains_key(rt, &key)),
-        "insert" => inserted(rt, alloc, map, key, value),
-        "try_insert" => tried(rt, alloc, map, key, value),
+        "insert" => inserted(rt, alloc, map, call),
+        "try_insert" => tried(rt, alloc, map, call),
         "remove" => one(alloc, map.remove(rt, &key)?),
         "remove_entry" => pair(alloc, map.remove_entry(rt, &key)?),
         "remove_if" => so(alloc, map.remove_if(rt, &key, |_, there| *there == value)?),
-        _ => of_making(rt, alloc, map, call, key, value),
+        _ => of_making(rt, alloc, map, call),
     }
 }
 
 /// The value in whose place one was stored.
-fn inserted<R: Wait>(
-    rt: &R,
-    alloc: Global,
-    map: &mut Own<'_>,
-    key: u64,
-    value: u64,
-) -> Told<String> {
-    match map.insert(rt, key, value)? {
+fn inserted<R: Wait>(rt: &R, alloc: Global, map: &mut Own<'_>, call: &Call<'_>) -> Told<String> {
+    match map.insert(rt, call.key, call.value)? {
         Some(old) => one(alloc, Some(map.value(old))),
         None => one(alloc, None),
     }
 }
 
 /// The pair that is there where one is to be stored if the key is missing, and what comes back.
-fn tried<R: Wait>(rt: &R, alloc: Global, map: &mut Own<'_>, key: u64, value: u64) -> Told<String> {
-    let (there, tried) = map.try_insert(rt, key, value)?;
+fn tried<R: Wait>(rt: &R, alloc: Global, map: &mut Own<'_>, call: &Call<'_>) -> Told<String> {
+    let (there, tried) = map.try_insert(rt, call.key, call.value)?;
     let (own, there) = map.pair(there);
     match tried {
         Attempt::Stored => Ok(format!(in alloc; "{own} {there}")?),
@@ -98,8 +96,8 @@ fn turns(pair: Option<(&u64, &u64)>) -> Operation<u64, u64> {
 }
 
 /// What a key was computed to by what was there.
-fn computed<R: Wait>(rt: &R, alloc: Global, map: &mut Own<'_>, key: u64) -> Told<String> {
-    match map.compute(rt, &key, turns)? {
+fn computed(alloc: Global, computed: ComputedPair<u64>) -> Told<String> {
+    match computed {
         ComputedPair::Inserted => Ok(format!(in alloc; "inserted")?),
         ComputedPair::Updated => Ok(format!(in alloc; "updated")?),
         ComputedPair::Removed => Ok(format!(in alloc; "removed")?),
@@ -108,28 +106,23 @@ fn computed<R: Wait>(rt: &R, alloc: Global, map: &mut Own<'_>, key: u64) -> Told
 }
 
 /// What a map answers to a call that makes a value of the one that is there, or where none is; and whether it asked for that.
-fn of_making<R: Wait>(
-    rt: &R,
-    alloc: Global,
-    map: &mut Own<'_>,
-    call: &str,
-    key: u64,
-    value: u64,
-) -> Told<String> {
+fn of_making<R: Wait>(rt: &R, alloc: Global, map: &mut Own<'_>, call: &Call<'_>) -> Told<String> {
+    let (key, value) = (call.key, call.value);
     let asked = AtomicU64::new(0);
     let new = || {
         asked.store(1, SeqCst);
         value
     };
-    let said = match call {
+    let said = match call.name {
         "try_insert_with" => so(alloc, map.try_insert_with(rt, key, new)?)?,
         "get_or_insert" => one(alloc, Some(map.get_or_insert(rt, key, value)?))?,
         "get_or_insert_with" => one(alloc, Some(map.get_or_insert_with(rt, key, new)?))?,
         "update" => so(alloc, map.update(rt, &key, more)?)?,
         "update_or_insert" => so(alloc, map.update_or_insert(rt, &key, more, &value)?)?,
         "update_or_insert_with" => so(alloc, map.update_or_insert_with(rt, &key, more, new)?)?,
-        "compute" => computed(rt, alloc, map, key)?,
-        _ => of_all(rt, alloc, map, call, key, value)?,
+        "compute" => computed(alloc, map.compute(rt, &key, turns)?)?,
+        "remove_nothing" => computed(alloc, map.compute(rt, &key, |_| Operation::Remove)?)?,
+        _ => of_all(rt, alloc, map, call)?,
     };
     if asked.load(SeqCst) == 0 {
         return Ok(said);
@@ -138,70 +131,64 @@ fn of_making<R: Wait>(
 }
 
 /// What a map answers to a call on all its pairs.
-fn of_all<R: Wait>(
-    rt: &R,
-    alloc: Global,
-    map: &mut Own<'_>,
-    call: &str,
-    key: u64,
-    value: u64,
-) -> Told<String> {
-    match call {
+fn of_all<R: Wait>(rt: &R, alloc: Global, map: &mut Own<'_>, call: &Call<'_>) -> Told<String> {
+    let (key, value) = (call.key, call.value);
+    match call.name {
         "len" => one(alloc, Some(&map.len())),
         "is_empty" => so(alloc, map.is_empty()),
         "keys" => list(alloc, map.keys(rt, alloc)?),
         "clear" => so(alloc, map.clear(rt)? == ()),
         "reserve" => so(alloc, map.reserve(rt, key)? == ()),
-        "retain" => so(alloc, map.retain(rt, |_, value| *value < key)? == ()),
-        "extend" => so(alloc, map.extend(rt, [(key, 1), (value, 2), (key, 3)])? == ()),
-        "walk" => walked(rt, alloc, map, key, value),
+        "retain" => so(alloc, map.retain(rt, |_, there| *there < key)? == ()),
+        "extend" => so(
+            alloc,
+            map.extend(rt, [(key, 1), (value, 2), (key, 3)])? == (),
+        ),
+        "fill" => filled(rt, alloc, map, key),
+        "walk" => walked(rt, alloc, map, call),
         _ => Ok(format!(in alloc; "no call")?),
     }
 }
 
-/// The pairs of three keys, the first of which nothing has, as a walk lends them.
-fn walked<R: Wait>(rt: &R, alloc: Global, map: &mut Own<'_>, key: u64, value: u64) -> Told<String> {
-    let mut walk = map.walk(vec![in alloc; 99, key, value]?);
+/// How many pairs are counted once so many keys were stored, each with itself.
+fn filled<R: Wait>(rt: &R, alloc: Global, map: &mut Own<'_>, many: u64) -> Told<String> {
+    for key in 0..many {
+        let _ = map.insert(rt, key, key)?;
+    }
+    one(alloc, Some(&map.len()))
+}
+
+/// The first two pairs of three keys that a walk lends.
+fn walked<R: Wait>(rt: &R, alloc: Global, map: &mut Own<'_>, call: &Call<'_>) -> Told<String> {
+    let mut walk = map.walk(vec![in alloc; 99, call.key, call.value]?);
     let (first, second) = (walk.next(rt), walk.next(rt));
     let (first, second) = (pair(alloc, first)?, pair(alloc, second)?);
     Ok(format!(in alloc; "{first}, {second}")?)
 }
 
 /// What a set answers to a call.
-fn of_set<R: Wait>(
-    rt: &R,
-    alloc: Global,
-    set: &mut sets::Own<'_>,
-    call: &str,
-    key: u64,
-    other: u64,
-) -> Told<String> {
-    match call {
+fn of_set<R: Wait>(rt: &R, alloc: Global, set: &mut Set<'_>, call: &Call<'_>) -> Told<String> {
+    let key = call.key;
+    match call.name {
         "get" => one(alloc, set.pin().get(rt, &key)),
         "contains" => so(alloc, set.contains(rt, &key)),
         "insert" => so(alloc, set.insert(rt, key)?),
         "remove" => so(alloc, set.remove(rt, &key)?),
         "len" => one(alloc, Some(&set.len())),
         "is_empty" => so(alloc, set.is_empty()),
-        _ => of_elements(rt, alloc, set, call, key, other),
+        _ => of_elements(rt, alloc, set, call),
     }
 }
 
 /// What it answers to a call on all its elements.
-fn of_elements<R: Wait>(
-    rt: &R,
-    alloc: Global,
-    set: &mut sets::Own<'_>,
-    call: &str,
-    key: u64,
-    other: u64,
-) -> Told<String> {
-    match call {
+fn of_elements<R: Wait>(rt: &R, alloc: Global, set: &mut Set<'_>, call: &Call<'_>) -> Told<String> {
+    let key = call.key;
+    match call.name {
         "elements" => list(alloc, set.elements(rt, alloc)?),
         "clear" => so(alloc, set.clear(rt)? == ()),
         "reserve" => so(alloc, set.reserve(rt, key)? == ()),
         "retain" => so(alloc, set.retain(rt, |element| *element < key)? == ()),
-        "extend" => so(alloc, set.extend(rt, [key, other, key])? == ()),
+        "extend" => so(alloc, set.extend(rt, [key, call.value, key])? == ()),
         "walk" => one(alloc, set.walk(vec![in alloc; 99, key]?).next(rt)),
         _ => Ok(format!(in alloc; "no call")?),
     }
@@ -221,19 +208,15 @@ fn says<R: Wait>(rt: &R, alloc: Global, on: &mut On<'_>, call: &str) -> Told<Str
         [name, key, value] => (name, number(key), number(value)),
         _ => ("", 0, 0),
     };
+    let call = Call { name, key, value };
     match on {
-        On::Map(map) => of_key(rt, alloc, map, name, key, value),
-        On::Set(set) => of_set(rt, alloc, set, name, key, value),
+        On::Map(map) => of_key(rt, alloc, map, &call),
+        On::Set(set) => of_set(rt, alloc, set, &call),
     }
 }
 
 /// The first of these calls that answers otherwise than the row says, and what it answers; or none.
-fn wrong<R: Wait>(
-    rt: &R,
-    alloc: Global,
-    on: &mut On<'_>,
-    calls: &str,
-) -> Told<Option<String>> {
+fn wrong<R: Wait>(rt: &R, alloc: Global, on: &mut On<'_>, calls: &str) -> Told<Option<String>> {
     let mut rest = calls;
     for _ in 0..calls.len() {
         let (first, more) = rest.split_once(';').unwrap_or((rest, ""));
@@ -262,7 +245,7 @@ fn of_new<R: Wait>(
     calls: &str,
 ) -> Told<Option<String>> {
     if is_set {
-        let set = sets::new(alloc, mode)?;
+        let set = sets::built(alloc, mode)?;
         return wrong(rt, alloc, &mut On::Set(set.session()?), calls);
     }
     let map = made(alloc, mode)?;

@@ -1,8 +1,10 @@
 //! What two threads do to a set; how one is built; and what refuses one, or a guard and a pass of another set.
 ghost use Rattle.std.specs.Prelude.{◌≡◌, ◌≢◌};
 
-use crate::{Hashing, LOOKS, Told};
-use papaya::{Collector, Fault, HashSet, IdSource, Pass, RefusedKey, ResizeMode, SetSession, SharedSet};
+use crate::{Hashing, LOOKS, Told, with};
+use papaya::{
+    Collector, Fault, HashSet, IdSource, Pass, RefusedKey, ResizeMode, SetSession, SharedSet,
+};
 use std::alloc::Global;
 use std::hash::RandomState;
 use std::sync::Wait;
@@ -15,12 +17,6 @@ pub(crate) type Own<'m> = SetSession<'m, u64, Hashing>;
 
 type Lent<'m> = SharedSet<'m, u64, Hashing>;
 
-/// A set of this mode.
-pub(crate) fn new(alloc: Global, mode: ResizeMode) -> Told<Set> {
-    let builder = HashSet::builder(Hashing::default()).resize_mode(mode);
-    builder.build(alloc, &mut IdSource::new())
-}
-
 /// Tells whether a source of one number gives that to a set, and none to another one.
 pub(crate) fn made(alloc: Global, one: RandomState, other: RandomState) -> Told<bool> {
     let mut ids = IdSource::starting_at(u64::MAX - 1);
@@ -30,10 +26,10 @@ pub(crate) fn made(alloc: Global, one: RandomState, other: RandomState) -> Told<
 }
 
 /// A set of this mode, which was built with all that can be chosen.
-pub(crate) fn built(alloc: Global, hasher: RandomState, mode: ResizeMode) -> Told<Set> {
+pub(crate) fn built(alloc: Global, mode: ResizeMode) -> Told<Set> {
     let mut ids = IdSource::new();
     let collector = Collector::new(&mut ids, 1, 4)?.batch_size(1);
-    let builder = HashSet::builder(hasher)
+    let builder = HashSet::builder(Hashing::default())
         .hasher(Hashing::default())
         .capacity(10);
     let builder = builder.collector(collector).shards(2).resize_mode(mode);
@@ -49,7 +45,7 @@ fn changes<R: Wait>(rt: &R, mut set: Own<'_>, takes: bool) -> Told<u64> {
         } else {
             set.insert(rt, key)?
         };
-        bits = u64::wrapping_add(u64::wrapping_mul(bits, 2), u64::from(done));
+        bits = with(bits, done);
         set.refresh();
     }
     Ok(bits)
@@ -67,8 +63,9 @@ fn both<R: Threads + Wait + Sync>(rt: &R, set: &Set, takes: bool) -> Told<u64> {
 }
 
 /// Tells whether just one of two threads that put the same keys has put each, and one of two that take them out has taken it.
-pub(crate) fn change<R: Threads + Wait + Sync>(rt: &R, set: &Set) -> Told<bool> {
-    let (new, taken) = (both(rt, set, false)?, both(rt, set, true)?);
+pub(crate) fn change<R: Threads + Wait + Sync>(rt: &R, made: Told<Set>) -> Told<bool> {
+    let set = made?;
+    let (new, taken) = (both(rt, &set, false)?, both(rt, &set, true)?);
     Ok(new == u64::MAX && taken == u64::MAX && set.session()?.len() == 0)
 }
 
@@ -102,8 +99,9 @@ fn leaves<R: Wait + Clock>(rt: &R, set: &Lent<'_>, guard: &Own<'_>, key: u64) ->
 }
 
 /// Tells whether two threads do so under one guard.
-pub(crate) fn meet<R: Threads + Wait + Clock + Sync>(rt: &R, set: &Set) -> Told<bool> {
-    let set = set.shared();
+pub(crate) fn meet<R: Threads + Wait + Clock + Sync>(rt: &R, made: Told<Set>) -> Told<bool> {
+    let made = made?;
+    let set = made.shared();
     let guard = set.session()?;
     let (one, other) = thread::join(
         rt,

@@ -1,8 +1,7 @@
 //! Calls on a whole map: what one session counts and is shown of many keys; keys that are found while another thread makes room; two threads that go over all pairs until
 //! they meet; and one that counts and clears while another one stores.
-use crate::{LOOKS, Own, Told, made};
-use papaya::{Onlooker, ResizeMode};
-use std::alloc::Global;
+use crate::{LOOKS, Map, Own, Told};
+use papaya::Onlooker;
 use std::sync::Wait;
 use std::thread::{self, Threads};
 use std::time::{Clock, Duration};
@@ -63,8 +62,8 @@ fn shown<R: Wait>(rt: &R, session: &mut Own<'_>, many: u64) -> Told<(u64, u64)> 
 }
 
 /// Tells whether all is right of many keys, which are stored, lowered, removed, and stored anew.
-pub(crate) fn has_many<R: Wait>(rt: &R, alloc: Global, mode: ResizeMode) -> Told<bool> {
-    let made = made(alloc, mode)?;
+pub(crate) fn has_many<R: Wait>(rt: &R, made: Told<Map>) -> Told<bool> {
+    let made = made?;
     let mut map = made.session()?;
     let so = [
         fills(rt, &mut map, FEW)? == FEW,
@@ -98,12 +97,8 @@ fn reads<R: Wait>(rt: &R, mut session: Own<'_>) -> u64 {
 }
 
 /// Tells whether each lookup of one thread finds its key, while another one makes room, and as many are there then.
-pub(crate) fn grows<R: Threads + Wait + Sync>(
-    rt: &R,
-    alloc: Global,
-    mode: ResizeMode,
-) -> Told<bool> {
-    let map = made(alloc, mode)?;
+pub(crate) fn grows<R: Threads + Wait + Sync>(rt: &R, made: Told<Map>) -> Told<bool> {
+    let map = made?;
     let mut first = map.session()?;
     let (second, third) = (first.another()?, first.another()?);
     let _ = fills(rt, &mut first, FEW)?;
@@ -144,12 +139,8 @@ fn meets<R: Wait + Clock>(rt: &R, mut session: Own<'_>, own: u64) -> Told<bool> 
 
 /// Tells whether two threads do so, and an onlooker is shown as many pairs then. Were the threads served one after another, the first one would not be shown the key of the
 /// second.
-pub(crate) fn meet<R: Threads + Wait + Clock + Sync>(
-    rt: &R,
-    alloc: Global,
-    mode: ResizeMode,
-) -> Told<bool> {
-    let map = made(alloc, mode)?;
+pub(crate) fn meet<R: Threads + Wait + Clock + Sync>(rt: &R, made: Told<Map>) -> Told<bool> {
+    let map = made?;
     let mut first = map.session()?;
     let (second, third) = (first.another()?, first.another()?);
     let _ = fills(rt, &mut first, STAY)?;
@@ -175,15 +166,15 @@ fn clears_often<R: Wait>(rt: &R, mut session: Own<'_>) -> Told<bool> {
 }
 
 /// Tells whether one thread does so while another one stores each key once, what is left is what is counted, and is gone once it is cleared.
-pub(crate) fn clears<R: Threads + Wait + Sync>(
-    rt: &R,
-    alloc: Global,
-    mode: ResizeMode,
-) -> Told<bool> {
-    let map = made(alloc, mode)?;
+pub(crate) fn clears<R: Threads + Wait + Sync>(rt: &R, made: Told<Map>) -> Told<bool> {
+    let map = made?;
     let mut first = map.session()?;
     let (second, mut third) = (first.another()?, first.another()?);
-    let (few, stored) = thread::join(rt, || clears_often(rt, second), || fills(rt, &mut third, FEW));
+    let (few, stored) = thread::join(
+        rt,
+        || clears_often(rt, second),
+        || fills(rt, &mut third, FEW),
+    );
     let left = first.len();
     let same = few? && stored? <= FEW && shown(rt, &mut first, FEW)? == (left, 0);
     first.clear(rt)?;
