@@ -1,5 +1,5 @@
 -- In which order a map that ends reclaims what it has: its pairs, then table by table the pairs that a table carries and the table, then its counter.
-use Rattle.std.specs.Prelude.{ℕ, zero, suc, ◌-◌, ◌<◌, ◌≤◌, Bool, true, false, cond, List, [], ◌∷◌, ◌++◌, map, if◌then◌else◌, ◌&&◌}
+use Rattle.std.specs.Prelude.{ℕ, zero, suc, ◌-◌, Bool, true, false, cond, List, [], ◌∷◌, ◌++◌, map, if◌then◌else◌, ◌&&◌}
 use Rattle.many_calls.specs.Given.RuleChart.{Place, Holds, Chart, is_marked}
 use Rattle.many_calls.specs.Given.RuleWords.{Blocks}
 

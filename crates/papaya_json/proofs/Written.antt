@@ -1,5 +1,5 @@
 -- What a session has written of what a walk has told it, and what it has stored of what it has read.
-use Rattle.std.specs.Prelude.{Bool, List, [], ◌∷◌, ◌⊎◌, Result, Ok, Err, Some, IfErr, IfOk, false, map, string_cmp}
+use Rattle.std.specs.Prelude.{Bool, List, [], ◌∷◌, Result, Ok, Err, Some, IfErr, IfOk, false, map, string_cmp}
 use Rattle.std.specs.BTreeMap.{BTreeMap, IsOrdered, values}
 use Rattle.std.specs.List.{FoldsTo}
 use Rattle.std.proofs.Common.{◌≡◌, ◌∙◌, ℕ, Global, String, ap, inl, inr, refl, sym, subst}

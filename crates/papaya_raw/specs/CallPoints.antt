@@ -2,7 +2,7 @@
 use Rattle.std.specs.Prelude.{ℕ, ◌+◌, ◌*◌, ◌/◌, ◌%◌, ◌^◌, ◌==◌, Bool, true, false, if◌then◌else◌, Option, Some, None}
 use Rattle.map_sweeps.specs.Given.SeizeWordsWord.{link_to, block_in}
 use Rattle.map_sweeps.specs.Given.TablesChunks.{is_incremental}
-use Rattle.map_sweeps.specs.Given.TablesTrials.{first_trial, trial_on, with_met, found_full, next_trial}
+use Rattle.map_sweeps.specs.Given.TablesTrials.{trial_on, with_met, found_full, next_trial}
 use Rattle.map_sweeps.specs.Given.TablesFinding.{finding}
 use Rattle.map_sweeps.specs.Given.ResizeLookup.{looking}
 use Rattle.papaya_raw.specs.Answers.{ended}

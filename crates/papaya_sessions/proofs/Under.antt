@@ -1,6 +1,6 @@
 -- That what a pass was told under a session that was lent is so in one finite map: by its newest call, by what it knew as that had ended.
 use Rattle.std.specs.Prelude.{◌<◌, ◌^◌, Option, Some, None, Result, Ok, IfOk, IfSome, IfNone, is_some, nat_lt, option_map}
-use Rattle.std.proofs.Common.{◌≡◌, ◌∙◌, ℕ, Bool, true, refl, sym, subst}
+use Rattle.std.proofs.Common.{◌≡◌, ◌∙◌, ℕ, Bool, true, refl, subst}
 use Rattle.std.proofs.lemmas.Bool.{ltb-true}
 use Rattle.play_moves.proofs.OneHistory.Calls.{found_none, found_value}
 use Rattle.play_moves.specs.Given.ActsActs.{Get}

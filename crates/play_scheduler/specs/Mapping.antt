@@ -18,9 +18,7 @@ use Rattle.run_schedules.specs.Schedules.Terms.{Terms}
 use Rattle.run_executor.specs.Given.MomentsNumbers.{NumbersMaps, PairsAreBelow}
 use Rattle.run_logged.specs.Log.Roots.{AreTaken}
 use Rattle.play_scheduler.specs.Played.{IsInTurn, Plays, entry_of}
-use Rattle.run_executor.specs.Named.Seen.{number_named}
 use Rattle.play_scheduler.specs.declared.played.Played.{Played}
-use Rattle.run_executor.specs.declared.named_map.NamedMap.{NamedMap}
 use Rattle.play_scheduler.specs.declared.scheduler.Scheduler.{Scheduler}
 
 -- so many maps have a number, of so many before, once the making of one came to this

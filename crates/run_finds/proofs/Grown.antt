@@ -20,8 +20,6 @@ use Rattle.run_finds.specs.Within.{many_of}
 use Rattle.run_finds.proofs.Lists.{none_of_them, all_so}
 use Rattle.run_finds.proofs.Somewhere.{is_storing}
 use Rattle.run_finds.proofs.Tables.{same_length}
-use Rattle.run_executor.proofs.Given.General.{equal_so as number_is}
-use Rattle.run_executor.proofs.Given.MomentsNumbers.{stage_same}
 
 -- lists
 

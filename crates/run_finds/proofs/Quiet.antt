@@ -3,7 +3,6 @@ use Rattle.std.specs.Prelude.{◌∷◌, Some}
 use Rattle.run_blocks.proofs.Owes.Events.{several_find}
 use Rattle.run_finds.specs.Quiet.{SeveralStoreOne}
 use Rattle.run_finds.specs.Life.{StoresOne}
-use Rattle.run_executor.proofs.Given.General.{both_false as neither}
 
 pub several_store_one : (K V : Type 0) → SeveralStoreOne K V
 several_store_one K V own map done effects m before after = several_find (StoresOne (Some own)) own map done effects m before after

@@ -1,5 +1,5 @@
 -- What a reservation knows once it has counted: with so many further pairs a table can be had. So it may ask for the blocks of a table that follows another one.
-use Rattle.std.specs.Prelude.{◌≡◌, ℕ, suc, ◌+◌, Bool, false, List, ◌∷◌, ◌++◌, Some}
+use Rattle.std.specs.Prelude.{◌≡◌, ℕ, suc, ◌+◌, Bool, false, List, ◌∷◌, Some}
 use Rattle.run_executor.specs.Given.SeizeWordsMem.{Mem}
 use Rattle.run_executor.specs.Given.SeizeDeclared.advance.Advance.{Advance}
 use Rattle.run_executor.specs.Given.SeizeDeclared.advance.Advance.TheVariants as progress

@@ -1,5 +1,5 @@
 -- What a rule allows a seat it may do where seats visit blocks and go on errands.
-use Rattle.std.specs.Prelude.{◌≡◌, ℕ, zero, suc, List, [], ◌∷◌, Some, None, IsSome, slice_get, slice_set, ◌++◌}
+use Rattle.std.specs.Prelude.{◌≡◌, ℕ, zero, suc, List, [], ◌∷◌, Some, None, IsSome, slice_get, slice_set, map, ◌++◌}
 use Rattle.std.proofs.Common.{refl, sym, ap, ◌∙◌, subst, arith, ◌⊎◌, inl, inr}
 use denote.RawPtr.{Ptr}
 use Rattle.seize_words.specs.OneMemory.Mem.{Mem, value_at, word_at}
@@ -11,7 +11,7 @@ use Rattle.seize_seats.specs.Seats.State as State
 use Rattle.seize_seats.specs.Seats.Lendings.{VisibleTo, VisibleToBoth, VisibleToThree, VisibleByWitness, IsValueOf, IsValueOfBoth, IsValueSo, IsValueBy}
 use Rattle.seize_seats.specs.Seats.Start.{bare, WasIdle, WasKnown}
 use Rattle.seize_seats.specs.Seats.Visits.{Spot, Visit, Claim, fresh, onward, onward_at, witness, plain, plain_memory, plain_op, plain_out, HoldsKept, keeps_kept, then_kept}
-use Rattle.seize_seats.specs.Seats.Errands.{Away, inward, RenewsIdle, RenewsTo, RenewsFrom, AreAllBack, AreIdle, then_away, Lends, AreUnlent, TurnsUnlent, MayGo, MayGoAll, MayLean, MayLeanAll, MayMeet, MayLeanBoth}
+use Rattle.seize_seats.specs.Seats.Errands.{Away, inward, RenewsIdle, RenewsTo, RenewsFrom, RenewsInto, AreAllBack, AreIdle, then_away, Lends, AreUnlent, TurnsUnlent, MayGo, MayGoAll, MayLean, MayLeanAll, MayMeet, MayLeanBoth}
 use Rattle.seize_seats.proofs.Seats.Places.Plain.{IsOnWord, value_of_block}
 use Rattle.seize_seats.proofs.Seats.Stepping.Visits as Visits
 use Rattle.seize_seats.proofs.Seats.Stepping.Errands as Errands
@@ -269,6 +269,41 @@ module _ {T V W : Type 0} (rests : V → Type 0) (leans : V → ℕ → Type 0) 
         let k = Errands.ends_alone rest lean up Visited Keeps rest' lean' up' Later id (v, y) e
         (λ t i at_id idle. (let r = law (plain value_of t) i.0 (Visits.view_plain value_of lies holds keeps t id (v, y) at_id) (plain_idle t idle) in (r.0, (r.1, λ i u b p is visits. absurd (cc is))))) s h.0 home at in
         (k.0, (k.1, (λ none. refl), λ i u c is claims. absurd (cc is)))
+
+    -- with the same seats
+    module _ (left : V → V') (heir : V') (resting : (v : V) → rests v → rests' (left v)) (rested : rests' heir) where
+      abbrev pub leaves : Seen V → Seen V'
+      leaves u = alone (left u.0.0)
+
+      abbrev visitor : V × Visit → V' × Visit
+      visitor u = (left u.0, fresh)
+
+      -- none of them visits a block, and none bears witness
+      all_fresh : (us : List (V × Visit)) (id i : ℕ) (u : V' × Visit) → slice_get (slice_set (map visitor us) id (heir, fresh)) i ≡ Some u → u.1 ≡ fresh
+      all_fresh us id = Errands.set_all (λ (u : V' × Visit). u.1 ≡ fresh) (map visitor us) id (heir, fresh) refl (λ i u at.
+          (let k = Errands.mapped_at visitor us i u at in ap (λ (x : V' × Visit). x.1) (sym k.2)))
+
+      none_claim : (us : List (Seen V)) (id i : ℕ) (u : Seen V') → slice_get (slice_set (map leaves us) id (alone heir)) i ≡ Some u → u.0.1.claim ≡ None
+      none_claim us id = Errands.set_all (λ (u : Seen V'). u.0.1.claim ≡ None) (map leaves us) id (alone heir) refl (λ i u at.
+          (let k = Errands.mapped_at leaves us i u at in ap (λ (x : Seen V'). x.0.1.claim) (sym k.2)))
+
+      pub inherits_alone : (id : ℕ) (v : V) (y : Visit) (e : Away) → RenewsInto rests holds after id v left heir → (s : St) → Hold s → AreAllBack back s.views
+          → slice_get s.views id ≡ Some ((v, y), e)
+          → (w : W') × Then s record { memory = s.memory; views = slice_set (map leaves s.views) id (alone heir); world = w }
+      inherits_alone id v y e law s h home at =
+          let k = Errands.inherits_alone rest lean up Visited Keeps rest' lean' up' Later visitor (heir, fresh) (λ u is. resting u.0 is) rested id (v, y) e visited s h.0 home at in
+          (k.0, (k.1, (λ none. refl), λ i u c is claims. absurd (cc (sym (none_claim s.views id i u is) ∙ claims))))
+        where
+          visited : RenewsInto rest Visited Later id (v, y) visitor (heir, fresh)
+          visited t i at_id idle =
+              let r = law (plain value_of t) i.0 (Visits.view_plain value_of lies holds keeps t id (v, y) at_id) (plain_idle t idle) in (
+                r.0,
+                (
+                  subst (λ (vs : List V'). after record { memory = plain_memory value_of t.memory; views = vs; world = r.0 })
+                      (sym (Errands.set_left visitor (λ (u : V' × Visit). u.0) (λ (u : V × Visit). u.0) left (λ u. refl) t.views id (heir, fresh))) r.1,
+                  λ i u b p is visits. absurd (cc (ap (λ (x : Visit). x.spot) (sym (all_fresh t.views id i u is)) ∙ visits)),
+                ),
+              )
 
   -- what was so of the memory as a renewal found it
   pub was_idle : (s : St) → Hold s → AreAllBack (λ (u : Seen V). u.1) s.views → WasIdle rests holds (plain_memory value_of s.memory)

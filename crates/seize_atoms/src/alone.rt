@@ -1,10 +1,10 @@
 //! Who has the memory to himself, and errands, in the midst of which nobody has.
 ghost use Rattle.std.specs.Prelude.{◌≡◌, ◌≢◌, ℕ, List, [], ◌∷◌, None};
-ghost use Rattle.seize_seats.specs.Seats.Errands.{Lends, RenewsIdle, RenewsTo, RenewsFrom};
+ghost use Rattle.seize_seats.specs.Seats.Errands.{Lends, RenewsIdle, RenewsTo, RenewsFrom, RenewsInto};
 ghost use Rattle.seize_seats.specs.Seats.Start.{WasIdle, WasKnown};
 ghost use Rattle.seize_seats.specs.Seats.Owned.{IsLike};
 
-use crate::rule::Rule;
+use crate::rule::{Bequest, Rule};
 use crate::seat::Seat;
 use crate::task::{Charge, Task};
 use crate::words::StripWords;
@@ -85,6 +85,32 @@ impl<T, R: Rule<T>> StripWords<T, R> {
             words,
             marker: PhantomData,
         }
+    }
+
+    /// Ends all seats, where it is known what this one knows, and puts the memory under another rule from then on, with the same seats: this one comes again, and
+    /// nobody has the others.
+    pub fn inherits<S: Rule<T>, B: Bequest<S::Fixed, R::View, S::View>>(
+        self,
+        seat: &mut Seat<T, R>,
+        fixed: &S::Fixed,
+    ) -> (StripWords<T, S>, Seat<T, S>)
+        requires { (seat.old.base ≡ self.id.views_name) × S.rests (B.heir fixed.now seat.old.view)
+            × ((v : R.View) → R.rests v → S.rests (B.left fixed.now v))
+            × RenewsInto R.rests (R.holds self.fixed) (S.holds fixed.now) seat.old.id seat.old.view (B.left fixed.now) (B.heir fixed.now seat.old.view) }
+        ensures { (result.0.words ≡ self.words) × (result.0.fixed ≡ fixed.now) × IsLike result.0.id self.id
+            × (result.1.base ≡ result.0.id.views_name) × (result.1.id ≡ seat.old.id) × (result.1.view ≡ B.heir fixed.now seat.old.view)
+            × (result.1.away ≡ None) × WasKnown R.rests (R.holds self.fixed) seat.old.id seat.old.view result.0.start }
+    {
+        let StripWords { words, marker: _ } = self;
+        (
+            StripWords {
+                words,
+                marker: PhantomData,
+            },
+            Seat {
+                marker: PhantomData,
+            },
+        )
     }
 
     /// Ends all seats.

@@ -12,7 +12,7 @@ mod task;
 mod words;
 
 pub use claim::Claim;
-pub use rule::{Lesson, Meeting, Rule, Turn};
+pub use rule::{Bequest, Lesson, Meeting, Rule, Turn};
 pub use seat::Seat;
 pub use strip::Strip;
 pub use task::{Charge, Task};

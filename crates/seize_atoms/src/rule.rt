@@ -59,3 +59,11 @@ pub trait Lesson<F, V> {
 pub trait Meeting<F, V> {
     ghost to: { F → V → V → V → V → Type 0 };
 }
+
+/// What becomes of views as a memory goes under another rule with the same seats: by what is chosen then, of the view of the seat that is handed on, and of
+/// each other one, which nobody has from then on.
+pub trait Bequest<F, V, W> {
+    ghost heir: { F → V → W };
+
+    ghost left: { F → V → W };
+}

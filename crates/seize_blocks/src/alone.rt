@@ -1,11 +1,11 @@
 //! A memory that one seat has to itself, under a rule of its own, and that goes back under the rule of all.
 ghost use Rattle.std.specs.Prelude.{◌≡◌, List, [], ◌∷◌, None};
-ghost use Rattle.seize_seats.specs.Seats.Errands.{RenewsTo, RenewsFrom};
+ghost use Rattle.seize_seats.specs.Seats.Errands.{RenewsTo, RenewsFrom, RenewsInto};
 ghost use Rattle.seize_seats.specs.Seats.Start.{WasIdle, WasKnown};
 ghost use Rattle.seize_seats.specs.Seats.Owned.{IsLike};
 
 use crate::blocks::Blocks;
-use seize_atoms::{Rule, Seat};
+use seize_atoms::{Bequest, Rule, Seat};
 
 impl<T, R: Rule<T>> Blocks<T, R> {
     /// All seats end, and what was lent is back. The memory is under another rule from then on, with one seat, which has just come.
@@ -22,6 +22,7 @@ impl<T, R: Rule<T>> Blocks<T, R> {
             words,
             roots,
             count,
+            last,
             digits,
             skip,
             values,
@@ -34,6 +35,7 @@ impl<T, R: Rule<T>> Blocks<T, R> {
                 words,
                 roots,
                 count,
+                last,
                 digits,
                 skip,
                 values,
@@ -57,6 +59,7 @@ impl<T, R: Rule<T>> Blocks<T, R> {
             words,
             roots,
             count,
+            last,
             digits,
             skip,
             values,
@@ -68,10 +71,57 @@ impl<T, R: Rule<T>> Blocks<T, R> {
             words,
             roots,
             count,
+            last,
             digits,
             skip,
             values,
             doors,
         }
+    }
+
+    /// All seats end, and what was lent is back, where it is known what this seat knows. The memory is under another rule from then on, with the same seats: this one
+    /// comes again, and nobody has the others.
+    pub(crate) fn inherits<S: Rule<T>, B: Bequest<S::Fixed, R::View, S::View>>(
+        self,
+        seat: Seat<T, R>,
+        fixed: &S::Fixed,
+    ) -> (Blocks<T, S>, Seat<T, S>)
+        requires own { seat.base ≡ self.words.id.views_name }
+        requires rests { S.rests (B.heir fixed.now seat.view) × ((v : R.View) → R.rests v → S.rests (B.left fixed.now v)) }
+        requires ends { RenewsInto R.rests (R.holds self.words.fixed) (S.holds fixed.now) seat.id seat.view (B.left fixed.now) (B.heir fixed.now seat.view) }
+        ensures fixed { result.0.words.fixed ≡ fixed.now }
+        ensures comes { (result.1.base ≡ result.0.words.id.views_name) × (result.1.id ≡ seat.id) × (result.1.view ≡ B.heir fixed.now seat.view)
+            × (result.1.away ≡ None) }
+        ensures start { WasKnown R.rests (R.holds self.words.fixed) seat.id seat.view result.0.words.start }
+        ensures same { (result.0.words.words ≡ self.words.words) × IsLike result.0.words.id self.words.id × (result.0.values.at ≡ self.values.at)
+            × (result.0.doors.at ≡ self.doors.at) }
+    {
+        let mut seat = seat;
+        let Blocks {
+            alloc,
+            words,
+            roots,
+            count,
+            last,
+            digits,
+            skip,
+            values,
+            doors,
+        } = self;
+        let (words, heir) = words.inherits::<S, B>(&mut seat, fixed);
+        (
+            Blocks {
+                alloc,
+                words,
+                roots,
+                count,
+                last,
+                digits,
+                skip,
+                values,
+                doors,
+            },
+            heir,
+        )
     }
 }

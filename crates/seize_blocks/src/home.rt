@@ -1,14 +1,14 @@
 //! The memory with the right to give back what it is made of.
 ghost use Rattle.std.specs.Prelude.{◌≡◌, ◌<◌, ◌≤◌, ◌^◌, List, [], ◌∷◌, None, IfOk};
 ghost use Rattle.core.specs.Mem.Slots.{lease_ptr, lease_len};
-ghost use Rattle.seize_seats.specs.Seats.Errands.{RenewsTo, RenewsFrom};
+ghost use Rattle.seize_seats.specs.Seats.Errands.{RenewsTo, RenewsFrom, RenewsInto};
 ghost use Rattle.seize_seats.specs.Seats.Start.{WasIdle, WasKnown};
 ghost use Rattle.seize_seats.specs.Seats.State.{Starts};
 ghost use Rattle.seize_seats.specs.Seats.Lines.{whole};
 ghost use Rattle.seize_seats.specs.Seats.Owned.{IsLike};
 
 use crate::blocks::{Blocks, MOST};
-use seize_atoms::{Rule, Seat, StripWords};
+use seize_atoms::{Bequest, Rule, Seat, StripWords};
 use seize_seats::{
     Doors, Ground, Kept, ValuePlaces, clear, clear_rooms, drain, give_back, lay, lay_doors,
     lay_empty,
@@ -78,6 +78,7 @@ impl<T: Drop, R: Rule<T>> Home<T, R> {
                     words,
                     roots,
                     count,
+                    last: count - 1,
                     digits,
                     skip,
                     values,
@@ -145,6 +146,41 @@ impl<T: Drop, R: Rule<T>> Home<T, R> {
             doorway,
         }
     }
+
+    /// Ends all seats, where it is known what this seat knows: what was lent is back. The memory is under another rule from then on, with the same seats: this one
+    /// comes again, and nobody has the others.
+    pub fn inherits<S: Rule<T>, B: Bequest<S::Fixed, R::View, S::View>>(
+        self,
+        seat: Seat<T, R>,
+        fixed: &S::Fixed,
+    ) -> (Home<T, S>, Seat<T, S>)
+        requires own { seat.base ≡ self.blocks.words.id.views_name }
+        requires rests { S.rests (B.heir fixed.now seat.view) × ((v : R.View) → R.rests v → S.rests (B.left fixed.now v)) }
+        requires ends { RenewsInto R.rests (R.holds self.blocks.words.fixed) (S.holds fixed.now) seat.id seat.view (B.left fixed.now)
+            (B.heir fixed.now seat.view) }
+        ensures fixed { result.0.blocks.words.fixed ≡ fixed.now }
+        ensures comes { (result.1.base ≡ result.0.blocks.words.id.views_name) × (result.1.id ≡ seat.id) × (result.1.view ≡ B.heir fixed.now seat.view)
+            × (result.1.away ≡ None) }
+        ensures start { WasKnown R.rests (R.holds self.blocks.words.fixed) seat.id seat.view result.0.blocks.words.start }
+        ensures same { (result.0.blocks.words.words ≡ self.blocks.words.words) × IsLike result.0.blocks.words.id self.blocks.words.id }
+    {
+        let Home {
+            blocks,
+            ground,
+            places,
+            doorway,
+        } = self;
+        let (blocks, heir) = blocks.inherits::<S, B>(seat, fixed);
+        (
+            Home {
+                blocks,
+                ground,
+                places,
+                doorway,
+            },
+            heir,
+        )
+    }
 }
 
 impl<T: Drop, R: Rule<T>> Drop for Home<T, R> {
@@ -160,6 +196,7 @@ impl<T: Drop, R: Rule<T>> Drop for Home<T, R> {
             words,
             roots,
             count,
+            last: _,
             digits: _,
             skip: _,
             values,

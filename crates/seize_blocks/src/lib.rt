@@ -17,4 +17,4 @@ pub use blocks::Blocks;
 pub use errand::{Errand, ErrandWith};
 pub use home::Home;
 pub use part::Place;
-pub use seize_atoms::{Lesson, Meeting, Rule, Seat, StripWords, Turn};
+pub use seize_atoms::{Bequest, Lesson, Meeting, Rule, Seat, StripWords, Turn};

@@ -15,14 +15,13 @@ use Rattle.map_tables.specs.declared.node.Node.TheVariants.{Pair}
 use Rattle.threads_errands.specs.Given.ViewsLooks.{shown_in}
 use Rattle.threads_errands.specs.Given.ViewsNotes.{SeatIsQuiescent}
 use Rattle.threads_errands.specs.Given.ViewsPromises.{LeaningsBegin}
-use Rattle.threads_errands.specs.Given.ViewsRule.{Holds, KeepsFor, section_of, stand_of}
+use Rattle.threads_errands.specs.Given.ViewsRule.{Holds, KeepsFor, section_of}
 use Rattle.threads_errands.specs.Given.ViewsDeclared.view.Map.{Map}
 use Rattle.threads_errands.specs.Given.ViewsDeclared.view.BegunCall.{BegunCall}
 use Rattle.threads_errands.specs.Given.ViewsDeclared.view.View.{View}
 use Rattle.threads_errands.specs.Given.ErrandsLooking.{HasFound, HasRun, MayLook, HasLookedAt, StaysThere, found_of}
 use Rattle.threads_callers.specs.Passing.{BeginsUnder, LeansNoMore, HasFoundUnder, HasRunUnder, IsBack, IsLentBy}
 use Rattle.threads_callers.proofs.Rows.{own_inside, rests_so}
-use Rattle.seize_words.proofs.General.{some_there as what}
 
 module _ {K V S : Type 0} (same : K → K → Bool) (hash : S → K → ℕ) (fixed : Fixed) where
   -- a seat that has nothing under way may lean on one that may look a key up within its own section

@@ -19,7 +19,7 @@ use Rattle.map_machines.specs.declared.copier.Copier.{Copier}
 use Rattle.map_machines.specs.declared.copier.Copying.{Copying}
 use Rattle.map_machines.specs.declared.copier.Copying.TheVariants as at
 use Rattle.map_machines.specs.Copier.{plan_at, copier_plan}
-use Rattle.map_machines.specs.CopierStates.{standing, behind, next_place, place_done}
+use Rattle.map_machines.specs.CopierStates.{standing, behind, place_done}
 use Rattle.map_machines.specs.CopierPlaces.{next_try, pair_put, place_read, after_put}
 use Rattle.map_machines.specs.CopierCounts.{refusing}
 use Rattle.map_machines.specs.CopierFurther.{further_read, grown}

@@ -1,5 +1,5 @@
 -- What follows with the onlooker on what a step of a walk tells; which pairs it was shown in all; and a closure as an onlooker.
-use Rattle.std.specs.Prelude.{List, [], ◌∷◌, ◌++◌, zero, suc, Some, None, Result}
+use Rattle.std.specs.Prelude.{List, [], ◌∷◌, ◌++◌, zero, suc, Some, Result}
 use Rattle.std.specs.Fn.{Called, Mut}
 use Rattle.std.specs.List.{FoldsTo}
 use Rattle.std.proofs.Common.{◌≡◌, ℕ, Bool, refl, sym, subst, ap}

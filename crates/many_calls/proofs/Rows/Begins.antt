@@ -1,5 +1,5 @@
 -- The beginning of a row that is given no block keeps a map and its blocks.
-use Rattle.std.proofs.Common.{◌≡◌, ℕ, Bool, ◌∙◌}
+use Rattle.std.proofs.Common.{◌≡◌, ℕ, Bool}
 use Rattle.seize_model.specs.Given.SeizeWorld.{World, Row, Use}
 use Rattle.map_facts_late.specs.Given.TablesDeclared.node.Node.{Node}
 use Rattle.map_facts_late.specs.Given.TablesDeclared.setting.Setting.{Setting}

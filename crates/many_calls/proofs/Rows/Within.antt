@@ -11,7 +11,6 @@ use Rattle.map_facts_late.specs.Given.RuleChart.{Chart}
 use Rattle.map_facts_late.specs.Given.RuleWords.{Blocks}
 use Rattle.many_calls.specs.Kept.{IsMaking, IsWithin}
 use Rattle.many_calls.proofs.Rows.Beside.{users_hand, making_own}
-use Rattle.seize_model.proofs.Given.SeizeRuleWorld.Begins.{inside_taken}
 
 module _ {K V : Type 0} (setting : Setting) (w : World (Node K V)) (c : Chart K) (blocks : Blocks) where
   -- a step of a row leaves the call within its section

@@ -8,7 +8,7 @@ use Rattle.many_calls.specs.Given.RuleWords.{Blocks, next_word, word_of}
 use Rattle.many_calls.proofs.Given.RuleWords.PlaceWords.{empty_block, tombstone_block, pair_block}
 use Rattle.many_calls.proofs.Given.RuleWords.PlaceWordsMarks.{has_copying}
 use Rattle.many_maps.specs.Orders.{pair_at}
-use Rattle.many_calls.proofs.Given.General.{same_some, less_false as ltb_not, less_true as ltb_is}
+use Rattle.many_calls.proofs.Given.General.{less_false as ltb_not, less_true as ltb_is}
 
 -- what a word says of the pair of a place
 module _ (block byte : ℕ → ℕ) (bits : Bool) where

@@ -7,7 +7,6 @@ use Rattle.many_calls.specs.Given.SeizeLaw.{Nowhere, Standing, Unlinked, Dropped
 use Rattle.many_calls.specs.Given.SeizeWaitingSets.{is_one_of}
 use Rattle.many_calls.specs.Given.SeizeWorld.{World, NoBlock, Cutting, LeftTo, times, with_at, all_left_to, with_hand, with_effect}
 use Rattle.many_maps.proofs.Ends.CountedBlocks.{times_here, times_other}
-use Rattle.many_calls.proofs.Given.SeizeRuleRows.Others.{with_here as hand_here}
 use Rattle.many_calls.proofs.Together.At.{at_other as hand_other}
 
 -- one of a list stands there

@@ -6,9 +6,6 @@ use Rattle.map_measures.specs.Falls.FallsWithin.{CopiersFall, BlockingCopiersFal
 use Rattle.map_measures.proofs.Falls.Calls.CopiersPromised as copiers
 use Rattle.map_measures.proofs.Falls.Calls.Promised as promised
 use Rattle.map_measures.proofs.Falls.Reserves.Promised as reserves
-use Rattle.map_measures.proofs.Falls.Calls.Lengths.{numbers_are_as_many}
-use Rattle.map_measures.proofs.Falls.Reserves.Lengths.{reserve_numbers_are_as_many}
-use Rattle.map_measures.proofs.Falls.Reserves.Rows.{reserve_rows_fall}
 
 module _ {K Q : Type 0} (V : Type 0) (same : K → K → Bool) (hash : K → ℕ) (asks : Q → K → Bool) where
   pub calls_fall : CallsFall V same hash asks

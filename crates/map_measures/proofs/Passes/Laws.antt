@@ -4,7 +4,6 @@ use Rattle.map_measures.specs.Passes.FallsSweeps.{SweepsFall, RepliesLowerTheVar
 use Rattle.map_measures.proofs.Passes.Promised as promised
 use Rattle.map_measures.proofs.Passes.Rows as rows
 use Rattle.map_measures.proofs.Passes.Telling as telling
-use Rattle.map_measures.proofs.Passes.Promised.{sweep_numbers_are_as_many}
 
 module _ {K : Type 0} (V : Type 0) (same : K → K → Bool) (hash : K → ℕ) where
   pub sweeps_fall : SweepsFall V same hash

@@ -1,5 +1,5 @@
 -- What is promised of each step that answers that its call waits for a copying.
-use Rattle.std.specs.Prelude.{Option, Some}
+use Rattle.std.specs.Prelude.{Option}
 use Rattle.std.proofs.Common.{◌≡◌, ℕ, ◌<◌, Bool, true, false, cond, ◌⊎◌, inl, inr, refl, ap, sym, subst, ◌∙◌, arith}
 use Rattle.seize_words.specs.OneMemory.Mem.{Took, value_at}
 use Rattle.seize_words.specs.OneMemory.Plan.{Steps}

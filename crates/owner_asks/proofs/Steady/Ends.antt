@@ -16,7 +16,6 @@ use Rattle.map_tables.specs.declared.node.Node.TheVariants as node
 use Rattle.map_tables.specs.declared.setting.Setting.{Setting}
 use Rattle.map_tables.specs.declared.table.Table.{Table}
 use Rattle.map_tables.specs.declared.table_words.TheConstants.{NEXT, PLACES}
-use Rattle.owner_calls.specs.Given.ResizeDispose.{dispose_plan}
 use Rattle.owner_calls.specs.Given.ResizeDispose as disposes
 use Rattle.owner_calls.specs.Given.ResizeDeclared.dispose.Dispose.{Dispose}
 use Rattle.owner_calls.specs.Given.ResizeDeclared.dispose.Disposing.{Disposing}

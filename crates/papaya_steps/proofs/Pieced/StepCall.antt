@@ -36,7 +36,7 @@ use Rattle.run_schedules.specs.Deeds.Deeds.{Steps, Entry as Act}
 use Rattle.play_events.specs.Given.DrivesExecutors.{AreSteps, Computes, IsAct}
 use Rattle.play_events.proofs.Given.DrivesExecutors.{executors_act}
 use Rattle.play_events.proofs.Given.PlayedTied.{call_tied}
-use Rattle.play_events.specs.Given.PlayedPlay.{Calling, State, call_stepped, is_refusal, play_act}
+use Rattle.play_events.specs.Given.PlayedPlay.{Calling, State, call_stepped, is_refusal}
 use Rattle.play_events.specs.Given.PlayedPlay as play
 use Rattle.play_events.specs.Given.PlayedReached.{rows_beside}
 use Rattle.play_events.proofs.Given.PlayedPlayedAs.{played_as}

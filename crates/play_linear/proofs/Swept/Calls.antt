@@ -68,7 +68,7 @@ use Rattle.play_linear.specs.Swept.Shown.{RefinesSweeps}
 use Rattle.play_linear.proofs.Swept.Tabled.{calls_keep_tabled, tabled_stays}
 use Rattle.run_schedules.proofs.Given.General.{same_some}
 use Rattle.run_sweeps.proofs.Quiet.Saying.{about_pair}
-use Rattle.run_sweeps.proofs.Quiet.Sweeps.{not_ready, adds_next}
+use Rattle.run_sweeps.proofs.Quiet.Sweeps.{adds_next}
 
 -- a call as an act begins it is for what was called
 begun_for : {K V : Type 0} (same : K → K → Bool) (st : Standing K) (i : ℕ) (wanted : Wanted K V) → IsFor (begun same slot_of st i wanted) (call_for wanted)

@@ -1,6 +1,6 @@
 -- The step of the making of a map by which it gets its root leaves it going on.
 use Rattle.std.specs.Prelude.{◌-◌, ◌+◌, nat_lt, Ok, Err, if◌then◌else◌}
-use Rattle.std.proofs.Common.{◌≡◌, Bool, true, false, refl, ap, sym, subst, ◌∙◌}
+use Rattle.std.proofs.Common.{◌≡◌, Bool, true, false, refl, ap, sym, subst}
 use Rattle.run_schedules.specs.Given.SeizeWordsMem.{Mem, value_at}
 use Rattle.run_schedules.specs.Given.SeizeWordsOp.{Out, Exchanged}
 use Rattle.run_schedules.specs.Given.SeizeWordsPlan.{Ends as EndsSo}

@@ -33,7 +33,6 @@ use Rattle.many_acts.specs.Given.ScenesDeclared.row.SlotRow.{SlotRow}
 use Rattle.many_acts.specs.Given.ScenesDeclared.row.SlotRow.TheVariants as rows
 use Rattle.run_schedules.specs.Deeds.Deeds.{Deed, Leaves, Opens}
 use Rattle.play_lists.specs.Played.Play.{leaves_as, registers_as, row_deed}
-use Rattle.run_finds.proofs.Given.CallersTogether.Handed.{more_back as more_inside}
 use Rattle.run_finds.proofs.Given.CallersTogether.RowSteps.{less_inside}
 use Rattle.run_finds.proofs.Given.General.{same_some}
 

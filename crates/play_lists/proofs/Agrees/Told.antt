@@ -42,7 +42,6 @@ use Rattle.play_lists.proofs.Agrees.Elsewhere.{EmptiesRoot}
 use Rattle.play_lists.proofs.Agrees.Fresh.{BeginsElsewhere}
 use Rattle.play_lists.proofs.Agrees.Known.{MakesSome}
 use Rattle.play_lists.proofs.Grouped.Callers.{under as mapped}
-use Rattle.run_finds.proofs.Given.General.{same_some}
 
 module _ {K V : Type 0} (g : Grant) (m : Mem (Node K V)) (end : Mem (Node K V) × (SlotRow × RowTold (Node K V))) where
   pub row_stepped_so : (row : SlotRow) → slot_row_steps row g m ≡ Some end → RowSteps K V row m end.0 (row_changed (row_of row) g m) end.1

@@ -6,7 +6,7 @@ use Rattle.std.proofs.lemmas.Bool.{cases_eq, eq-eqb}
 use Rattle.seize.specs.World.{with_at}
 use Rattle.many_acts.specs.Given.FinishesMaps.{with_call}
 use Rattle.many_acts.proofs.Given.CallersTogether.At.{at_other, at_same}
-use Rattle.run_finds.proofs.Given.General.{all_so as each_so, same_some}
+use Rattle.run_finds.proofs.Given.General.{same_some}
 use Rattle.run_kept.proofs.Lists.{all_but}
 
 -- something is there, of which this is seen

@@ -13,7 +13,6 @@ use Rattle.run_legal.specs.Given.EffectsDeclared.acting.Acting.{Acting}
 use Rattle.run_legal.proofs.Given.PromisesWeights.{operations_are_single}
 use Rattle.run_schedules.specs.Deeds.Deeds.{Begins, Deed, Entry, Replies, Stops}
 use Rattle.run_schedules.specs.Deeds.History.{may_do}
-use Rattle.play_linear.proofs.Given.AgreesGrants.{refusals_so as refuses_so}
 use Rattle.play_moves.specs.EachMoves.Parts.{DoesIts}
 
 -- what all pass that pass another test

@@ -4,7 +4,7 @@ use Rattle.std.proofs.Common.{refl, sym, ap, subst, ◌∙◌}
 use Rattle.run_executor.specs.Named.Roll.{at_place, called}
 use Rattle.run_executor.specs.declared.caller.NamedCaller.{NamedCaller}
 use Rattle.play_stepping.specs.EventSteps.Stepping.{HasCaller, IsCaller, IsPlaced}
-use Rattle.seize_words.proofs.General.{none_of as none_there, same_some as the}
+use Rattle.seize_words.proofs.General.{same_some as the}
 
 -- what is there, and what is not
 pub some_there : {X : Type 0} (o : Option X) → is_some o ≡ true → (x : X) × (o ≡ Some x)

@@ -1,5 +1,5 @@
 -- What is promised of the words of maps' counts: the memory's are those of the moment, whoever takes a step.
-use Rattle.std.specs.Prelude.{◌≡◌, ℕ, ◌≤◌, Bool, true, false, List, Option, Some, None}
+use Rattle.std.specs.Prelude.{◌≡◌, ℕ, Bool, true, false, List, Option, Some, None}
 use Rattle.run_debts.specs.Given.SeizeWorld.{Begin, Step, with_at}
 use Rattle.run_debts.specs.Given.SeizeDeclared.advance.Advance.{Advance as Making}
 use Rattle.run_debts.specs.Given.SeizeDeclared.rows.settle.Settled.{Settled}

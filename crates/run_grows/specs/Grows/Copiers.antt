@@ -1,6 +1,6 @@
 -- For what a copier makes a further table: the map has a second one then, into which the root's is copied; or, in blocking mode, the root has left a table at the moment of
 -- the map at which the call began, or since. So a call that copies may ask for each block that it makes, if its map had a second table then, or before.
-use Rattle.std.specs.Prelude.{◌≡◌, ℕ, Bool, List, ◌∷◌, Option, Some, None, ◌⊎◌}
+use Rattle.std.specs.Prelude.{◌≡◌, ℕ, Bool, List, ◌∷◌, Option, Some, None}
 use Rattle.papaya_raw.specs.Given.TablesDeclared.node.Node.{Node}
 use Rattle.run_finds.specs.Given.ResizeDeclared.new_table.NewTable.{NewTable}
 use Rattle.papaya_raw.specs.Given.ReservesDeclared.reserve.Reserving.{Reserving}

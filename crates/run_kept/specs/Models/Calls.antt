@@ -1,6 +1,6 @@
 -- Events of calls, where they come one after another: what a call hands over changes the waiting sets of blocks as it does those of the model, once its row
 -- has run.
-use Rattle.std.specs.Prelude.{◌≡◌, ◌≢◌, ◌≤◌, ◌<◌, ◌^◌, ℕ, List, [], ◌∷◌, ◌++◌, flat_map}
+use Rattle.std.specs.Prelude.{◌≡◌, ◌≤◌, ◌<◌, ◌^◌, ℕ, List, [], ◌∷◌, ◌++◌, flat_map}
 use Rattle.seize.specs.Sequence.{changes}
 use Rattle.seize.specs.WaitingSets.{Change, Sets, all_changed}
 use Rattle.seize.specs.World.{World, Rests, Request, IsInside}

@@ -1,5 +1,5 @@
 -- Rows within calls that defer a pair behind a table: such a row tells just that, once.
-use Rattle.std.specs.Prelude.{◌≡◌, ◌≢◌, ◌⊎◌, ℕ, true, List, [], ◌∷◌, ◌++◌}
+use Rattle.std.specs.Prelude.{◌≡◌, ◌⊎◌, ℕ, true, List, [], ◌∷◌}
 use Rattle.run_schedules.specs.Given.SeizeWordsDeclared.at.At.{At}
 use Rattle.run_schedules.specs.Given.SeizeWordsDeclared.at.At.TheVariants.{Word}
 use Rattle.run_schedules.specs.Given.SeizeWordsWord.{link_to}

@@ -1,5 +1,5 @@
 -- A caller that reclaims all, alone: its work on slots, by the waiting sets of blocks, and by those of the model.
-use Rattle.std.specs.Prelude.{◌≡◌, ◌<◌, ◌^◌, ℕ, List, ◌++◌, Option}
+use Rattle.std.specs.Prelude.{◌≡◌, ℕ, List, ◌++◌, Option}
 use Rattle.seize.specs.Sequence.{taken_in}
 use Rattle.seize.specs.WaitingSets.{Change, all_reclaimed}
 use Rattle.seize.specs.World.{World}

@@ -1,5 +1,5 @@
 -- Rows within calls that retire a block: such a row tells that the thing in it is retired, just once.
-use Rattle.std.specs.Prelude.{◌≡◌, ◌≢◌, ◌⊎◌, ℕ, Some, List, [], ◌∷◌, ◌++◌}
+use Rattle.std.specs.Prelude.{◌≡◌, ◌⊎◌, ℕ, Some, List, [], ◌∷◌}
 use Rattle.run_schedules.specs.Given.SeizeWordsDeclared.at.At.TheVariants.{Entry}
 use Rattle.run_schedules.specs.Given.SeizeWordsMem.{word_at}
 use Rattle.run_schedules.specs.Given.SeizeWordsWord.{link_to}

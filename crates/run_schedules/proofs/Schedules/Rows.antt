@@ -1,7 +1,7 @@
 -- The rows by which calls are judged, one after another, agree with the sequential specification of whole finite maps.
 use Rattle.std.specs.Prelude.{option_map, if◌then◌else◌}
 use Rattle.std.proofs.Common.{◌≡◌, ℕ, Bool, true, false, refl, sym, Option, Some, None}
-use Rattle.run_schedules.specs.Runs.Sequential.{Contents, OneKeyCall, CallAnswer, Replies, Specifies, next_number}
+use Rattle.run_schedules.specs.Runs.Sequential.{Contents, CallAnswer, Replies, Specifies, next_number}
 use Rattle.run_schedules.specs.Runs.Sequential as calls
 use Rattle.run_schedules.specs.declared.call.OneKey.{OneKey}
 use Rattle.run_schedules.specs.declared.call.OneKey.TheVariants.{Get, GetKeyValue, ContainsKey, Insert, TryInsert, TryInsertWith, GetOrInsert, GetOrInsertWith, Update, UpdateOrInsert, UpdateOrInsertWith, Compute, Remove, RemoveEntry, RemoveIf}

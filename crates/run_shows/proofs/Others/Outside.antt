@@ -15,7 +15,6 @@ use Rattle.run_shows.specs.Follows.Maps.{table_of, shape_at, tables_to, RefinesM
 use Rattle.run_shows.proofs.Follows.Alike.{AlikePairs, put_here, put_elsewhere}
 use Rattle.run_shows.proofs.Follows.Onward.{blocks_same, pairs_same, pairs_on}
 use Rattle.run_shows.specs.Others.Gone.{WaitOutside}
-use Rattle.run_shows.proofs.Follows.Stored.{in_map_true as in_map_of}
 
 -- what is in no map is not in this one
 pub not_in : (n : ℕ) (p : Place) → is_in_a_map p ≡ false → is_in_map n p ≡ false

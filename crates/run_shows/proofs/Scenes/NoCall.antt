@@ -3,7 +3,6 @@ use Rattle.std.specs.Prelude.{◌≡◌, ℕ, true, Option, Some, None}
 use Rattle.std.specs.Option.{is_none}
 use Rattle.std.proofs.Common.{refl}
 use Rattle.run_shows.specs.Scenes.Scene.{Scene, HasCall, HasNoCall}
-use Rattle.seize_words.proofs.General.{none_mapped as none_of}
 
 pub none_is : {X : Type 0} (o : Option X) → is_none o ≡ true → o ≡ None
 none_is None e = refl

@@ -21,7 +21,6 @@ use Rattle.run_finds.proofs.Owed.{owed_at_least, owed_there}
 use Rattle.run_finds.proofs.Somewhere.{is_storing, leads, none_stored}
 use Rattle.run_sweeps.proofs.Sizes.Sums.{places_put, places_same}
 use Rattle.run_finds.proofs.Given.FollowsStored.{in_map_true as is_in_it}
-use Rattle.run_finds.proofs.Given.General.{equal_so as number_is}
 
 pub it_is_in : (k : ℕ) (p : Place) → p ≡ InMap k → is_in_map k p ≡ true
 it_is_in k p e = ap (is_in_map k) e ∙ eq-eqb k k refl

@@ -34,7 +34,6 @@ use Rattle.run_waiting.proofs.Lives.Lives.{WaitsIn, OnWay, OnList, TakenOver}
 use Rattle.run_waiting.proofs.Lives.Logs.{unless_other, waits_on}
 use Rattle.run_waiting.proofs.Lives.Putting.{not_over}
 use Rattle.run_waiting.proofs.Lives.Worlds.{Kept, IsAside, log_back, happens_kept, start_kept, has_it}
-use Rattle.run_debts.proofs.Given.SeizeAloneHistories.Waiting.{carries_lives}
 
 -- A move of a settling row leaves the list of a block as it was, or empties it.
 module _ (n i : ℕ) (m : State) (t : ℕ) where

@@ -12,7 +12,7 @@ use Rattle.seize.specs.declared.rows.enter.Unregister.{Unregister}
 use Rattle.seize.specs.Enter.{enter_plan, unregister_plan}
 use Rattle.seize.specs.Further.{FurtherAre}
 use Rattle.seize.specs.Law.{Entered, is_orphan}
-use Rattle.seize.specs.World.{World, Row, Rests, Registers, Enters, Settles, Leaves, Defers, Frees, Vacant, Inside, LeftTo, Making, Event, Steps', Happens, Runs, IsOnto, MayClear, with_use}
+use Rattle.seize.specs.World.{World, Row, Rests, Registers, Enters, Settles, Leaves, Defers, Frees, Vacant, Inside, LeftTo, Event, Steps', Happens, Runs, IsOnto, MayClear, with_use}
 use Rattle.seize.specs.World as world
 use Rattle.seize_acts.specs.Acts.Answers.{Grant, then_on, answer, stepped}
 use Rattle.seize_acts.specs.Acts.Acts.{Act, Change, AllDid, AllMayChange, MayChange}

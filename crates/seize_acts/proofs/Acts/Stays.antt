@@ -16,7 +16,7 @@ use Rattle.seize_model.proofs.Given.SeizeRuleWorld.Start.{start_good}
 use Rattle.seize_model.proofs.Ends.Batches.Rows.{begins_memory, made_memory}
 use Rattle.seize_model.proofs.Alone.Histories.Reached.{Reached, happens_reached, runs_reached}
 use Rattle.seize_model.proofs.Alone.Histories.NotTaken.{IsHeld, kept_there, kept_value, did}
-use Rattle.seize_acts.specs.Acts.Stays.{how_many, is_end_of, is_end_of_owner, is_making_of, HeldAreThere, HeldStay, SectionContinues}
+use Rattle.seize_acts.specs.Acts.Stays.{how_many, is_end_of, is_end_of_owner, HeldAreThere, HeldStay, SectionContinues}
 use Rattle.seize_acts.proofs.Acts.Fine.{all_fine}
 use Rattle.seize_acts.proofs.Acts.Stays.Log.{Stays, Adds, how_many_grows, adds_stays, row_adds}
 use Rattle.seize_model.proofs.Given.SeizeRuleWorld.Values.{own_op_value, taken_value, made_value, rewritten_value}

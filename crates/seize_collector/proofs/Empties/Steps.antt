@@ -33,7 +33,6 @@ use Rattle.seize_collector.specs.declared.alone.Alone.TheVariants.{Registers, Re
 use Rattle.seize_collector.specs.Empties.Emptying.{IsUnderWay, left_of, settling_over, leaving_over, passes_at}
 use Rattle.seize_collector.specs.Empties.Made.{HasAlone, Can, Has, shown_of}
 use Rattle.seize_collector.specs.declared.sole.Sole.{Sole}
-use Rattle.seize_words.proofs.General.{some_there as is_told}
 
 module _ {T A B : Type 0} (f : A → B) where
   do_as : (plan : Plan T A) → IsDo plan → IsDo (plan_as f plan)

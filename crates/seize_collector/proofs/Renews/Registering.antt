@@ -16,7 +16,7 @@ use Rattle.seize.specs.declared.rows.register.Registering.{Registering}
 use Rattle.seize.specs.declared.rows.register.Registering.TheVariants as at
 use Rattle.seize.specs.declared.rows.reclaim_all.ReclaimAll.{ReclaimAll}
 use Rattle.seize.specs.Register.{register_plan, plan_at, begun, looked, widened, taken, further, taking, going, refused, registered, can_be_taken, bucket_needed}
-use Rattle.seize.specs.World.{World, Step, Steps', Vacant, registers_on, registered_use, registered_as}
+use Rattle.seize.specs.World.{World, Step, Steps', registers_on, registered_use, registered_as}
 use Rattle.seize.specs.World as world
 use Rattle.seize_model.proofs.Ends.Batches.Rows.{registers_memory}
 use Rattle.seize_rule.proofs.Rows.Others.{with_here, with_other}

@@ -3,7 +3,7 @@ use Rattle.std.specs.Prelude.{◌≢◌, Option, slice_get}
 use Rattle.std.proofs.Common.{◌≡◌, ℕ, List, [], ◌∷◌, ◌⊎◌, inl, inr, refl, sym, subst, ap, ◌∙◌}
 use Rattle.std.proofs.lemmas.Bool.{cases_eq}
 use Rattle.seize.specs.Sequence.{taken_in}
-use Rattle.seize.specs.World.{World, Hand, Event, Begin, Step, Happens, Runs, Register', Leave', Flush, Unregister', Request, at_start, times}
+use Rattle.seize.specs.World.{World, Hand, Event, Begin, Step, Happens, Runs, Register', Leave', Flush, Unregister', Request, times}
 use Rattle.seize_rule.proofs.Rows.Effects.{hand_kept, taken_hand}
 use Rattle.seize_model.proofs.Alone.Spared.Rows.{RowStepped}
 use Rattle.seize_model.proofs.Alone.Spared.Users.{own_is_no_list}

@@ -8,9 +8,8 @@ use Rattle.seize_moves.proofs.Waiting.Counts.{count-append, not_one, map_same}
 use Rattle.seize_moves.proofs.Waiting.Emptied.{size_falls, all_reclaimed_empty}
 use Rattle.seize_moves.proofs.Waiting.Ended.{ends_leave as ends}
 use Rattle.seize_moves.proofs.Waiting.Flushes.{retired_all_frame, left_others, counted_frame, flushed_frame}
-use Rattle.seize_moves.proofs.Waiting.Handed.{handed_waits, deferred_held as deferred_is_held}
 use Rattle.seize_moves.proofs.Waiting.Held.{open_all_counts}
-use Rattle.seize_moves.proofs.Waiting.Kept.{changed_keeps, all_changed-append, all_changed_keep as all_changes_keep}
+use Rattle.seize_moves.proofs.Waiting.Kept.{changed_keeps, all_changed-append}
 use Rattle.seize_moves.proofs.Waiting.Quiet.{retires_quietly}
 use Rattle.seize_moves.proofs.Waiting.Tidy.{tidy_start, slot_counted, without_counted}
 

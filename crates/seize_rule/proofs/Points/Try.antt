@@ -6,8 +6,6 @@ use Rattle.seize_moves.proofs.Moves.State.Ghost.{put, Head, Never, Free, Idle, A
 use Rattle.seize_moves.proofs.Memory.Words.Chains.{first_or}
 use Rattle.seize_moves.proofs.Memory.Words.Shows.{Extra, HeadIs}
 use Rattle.seize_rule.proofs.Points.Known.{AllTaken, TakenBelow, Common, HoldingOf, open_blocks, Tries, bare}
-use Rattle.seize_moves.proofs.Memory.Words.Apart.{put_here as here}
-use Rattle.seize_moves.proofs.Given.General.{length_and_one as length-more}
 
 -- what a head's word says
 

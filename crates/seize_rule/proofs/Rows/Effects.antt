@@ -1,6 +1,6 @@
 -- What one step of a row adds to the log.
 use Rattle.std.specs.Prelude.{if◌then◌else◌, ◌==◌}
-use Rattle.std.proofs.Common.{◌≡◌, ℕ, ◌∙◌, Bool, true, false, List, [], ◌∷◌, ◌++◌, refl, arith, sym, subst}
+use Rattle.std.proofs.Common.{◌≡◌, ℕ, Bool, true, false, List, [], ◌∷◌, ◌++◌, refl, arith, sym, subst}
 use Rattle.seize_moves.specs.Given.SeizeDeclared.states.TheConstants.{ACTIVE}
 use Rattle.seize_moves.specs.Given.SeizeDeclared.rows.settle.Settle.{Settle}
 use Rattle.seize_moves.specs.Given.SeizeDeclared.rows.settle.Settling.{Settling}

@@ -1,7 +1,6 @@
 -- The law of reclamation on logs worked by hand, newest first: what it accepts, and what it refuses.
 use Rattle.std.proofs.Common.{◌≡◌, ℕ, false, List, [], ◌∷◌, inl, inr, refl, arith}
 use Rattle.seize_moves.specs.Given.SeizeLaw.{Effect, Entered, Left, Linked, Unlinked, Deferred, Retired, Taken, Dropped, Ended, LeftOver, IsSound, holds}
-use Rattle.seize_rule.proofs.Samples.Law.{retired_in_reach as refused_retired_while_linked}
 
 -- a block is retired while two slots are active, and reclaimed once both have left
 abbrev reclaimed_after_both_left : List Effect

@@ -1,7 +1,8 @@
--- The memory goes into another lifetime: what was lent is back, all seats have ended, and a rule, the same or another one, holds of it with no seat, or with one
--- that comes. Assumes `Logic`.
-use Rattle.std.specs.Prelude.{slice_get}
-use Rattle.std.proofs.Common.{◌≡◌, ℕ, suc, Some, None, Option, ◌+◌, ◌*◌, List, [], ◌∷◌, take, drop, refl}
+-- The memory goes into another lifetime: what was lent is back, all seats have ended, and a rule, the same or another one, holds of it with no seat, with one
+-- that comes, or with the same seats. Assumes `Logic`.
+use Rattle.std.specs.Prelude.{slice_get, slice_set, map}
+use Rattle.std.proofs.Common.{◌≡◌, ℕ, zero, suc, Some, None, Option, ◌+◌, ◌*◌, List, [], ◌∷◌, ◌++◌, length, take, drop, refl, sym, arith}
+use Rattle.std.proofs.lemmas.List.{append-nil, append_assoc, length-append}
 use seplogic.Ra.Ura.{Ura}
 use base.Logic.{SProp, ent, sep, ex, emp, guard, via, never, never_e, guard_i, ex_i}
 use base.Share.{three_quarters}
@@ -9,7 +10,7 @@ use base.Fml.{Lft, Share, Fml, Incl, ftrue, flft, fdead, fbor}
 use types.Logic.{Logic, sem}
 use types.Owned.{basic}
 use types.Tokens.{lft_new, lft_end, bor_new, lent_back}
-use types.Kit.{‵, raw, ◌⊛◌, some as items, given, later, ◌$◌, ◌∵◌, !, qed, by, move, keep, drop as leave, split, split3, check, show, join, fsplit, fsplit3, fjoin, fjoin3, fpick, fpack, pick, learn, use0, use1, use2, use3, updating, await, now, done}
+use types.Kit.{‵, raw, ◌⊛◌, some as items, given, later, ◌$◌, ◌∵◌, !, qed, by, move, keep, drop as leave, split, split3, check, show, join, fsplit, fsplit3, fjoin, fjoin3, fpick, fpack, pick, learn, use0, use1, use2, use3, updating, await, now, rewrite, done}
 use denote.RattleType.{RattleType}
 use denote.RawPtr.{Ptr, block_of, count_of}
 use denote.Shares.{Shares}
@@ -153,21 +154,22 @@ module _ {M : Type 1} {𝓤 : Ura M} (𝓛 : Logic 𝓤) (R : RattleType) (own :
       use1 𝓛 (later (‵ (sitting (a ∷ []) cv' γ d (v ∷ [])) ⊛ ‵ (seen cv'.code γ three_quarters 0 v)))
       (via 𝓤 _ (Sitters.comes 𝓛 (a ∷ []) cv' γ d [] v home) (basic 𝓛 _)) $ await ! tt $ split ! $ now ! $ show ! (Begun a d (Some v)) γ $ done !)
 
-  -- K: what shows that the views are such
+  -- K: what shows that the views are such; over: the views then; Sits: the seats that are had then
   module _ (K : Fml) (Knows : List V → Type 0) (shows : (d : V) (vs : List V) → ⟦ sitting α cv z.views_name d vs ⟧ ∗ ⟦ K ⟧
-      ⊢ guard 𝓤 (Knows vs) (⟦ sitting α cv z.views_name d vs ⟧ ∗ ⟦ K ⟧)) (who : Option V') (comes : IsHome who) (blank : V → V') where
+      ⊢ guard 𝓤 (Knows vs) (⟦ sitting α cv z.views_name d vs ⟧ ∗ ⟦ K ⟧)) (over : List V → List V') (Sits : ℕ → Fml) (sit : (a : ℕ) (d : V') (vs : List V) → Knows vs
+      → ent 𝓤 (emp 𝓤) (H.⇛ (ex 𝓤 (λ (γ : ℕ). ⟦ sitting (a ∷ []) cv' γ d (over vs) ⟧ ∗ ⟦ Sits γ ⟧)))) (blank : V → V') where
     abbrev IsGone : BaseId × State R.Denot V W → Type 0
     IsGone u = IsLike u.0 z × WasFound cv.away holds Knows u.1
 
     abbrev pub Renewed : BaseId × State R.Denot V W → Pr
-    Renewed u = guard 𝓤 (IsGone u) (⟦ words_own R own cv' (after u.1) p u.0 ⟧ ∗ ⟦ seat_of u.0.views_name who ⟧)
+    Renewed u = guard 𝓤 (IsGone u) (⟦ words_own R own cv' (after u.1) p u.0 ⟧ ∗ ⟦ Sits u.0.views_name ⟧)
 
     -- THE MEMORY GOES INTO ANOTHER LIFETIME
     module _ (law : (s : State R.Denot V W) → holds s → AreAllBack cv.away s.views → Knows s.views
-        → (w : W') × after s record { memory = s.memory; views = views_of who; world = w }) (τ : Lft) (s : Share) (shares : Shares 𝓛 (OptionOf R) (OptionOf R).lives)
+        → (w : W') × after s record { memory = s.memory; views = over s.views; world = w }) (τ : Lft) (s : Share) (shares : Shares 𝓛 (OptionOf R) (OptionOf R).lives)
         (inc : Incl τ (OptionOf R).lives) where
-      pub goes_on : ⟦ words_own R own cv holds p z ⟧ ∗ ⟦ K ⟧ ∗ A.lft τ s ⊢ H.⇛ (ex 𝓤 Renewed ∗ A.lft τ s ∗ ⟦ K ⟧)
-      goes_on = qed 𝓛 (‵ (words_own R own cv holds p z) ∷ ‵ K ∷ ‵ (flft τ s) ∷ []) ∵ updating ! $ fsplit3 ! $ move ! (1 ∷ []) $ fsplit ! $ fpick ! (λ placed. leave ! $
+      pub goes_over : ⟦ words_own R own cv holds p z ⟧ ∗ ⟦ K ⟧ ∗ A.lft τ s ⊢ H.⇛ (ex 𝓤 Renewed ∗ A.lft τ s ∗ ⟦ K ⟧)
+      goes_over = qed 𝓛 (‵ (words_own R own cv holds p z) ∷ ‵ K ∷ ‵ (flft τ s) ∷ []) ∵ updating ! $ fsplit3 ! $ move ! (1 ∷ []) $ fsplit ! $ fpick ! (λ placed. leave ! $
           fsplit ! $
           -- [the strip; the invariant; the token; what was lent; what shows it; the type's token]
           move ! (1 ∷ []) $ leave ! $ move ! (1 ∷ []) $
@@ -185,12 +187,12 @@ module _ {M : Type 1} {𝓤 : Ura M} (𝓛 : Logic 𝓤) (R : RattleType) (own :
           use2 𝓛 (later (‵ (strips R α δ Owned Had ss cs) ⊛ ‵ (fdead α)))
           (Opening.unlends_strips 𝓛 R α δ Was Had own (Pieces.over 𝓛 R own cv holds p z) ss cs) $ await ! tt $ split ! $
           lft_new ! tt (λ a.
-          use0 𝓛 (later (items (λ (γ : ℕ). ‵ (sitting (a ∷ []) cv' γ (blank t.blank) (views_of who)) ⊛ ‵ (seat_of γ who)))) (sits_down a (blank t.blank) who comes) $ await ! tt $
+          use0 𝓛 (later (items (λ (γ : ℕ). ‵ (sitting (a ∷ []) cv' γ (blank t.blank) (over t.views)) ⊛ ‵ (Sits γ)))) (sit a (blank t.blank) t.views knows) $ await ! tt $
           pick ! (λ γ. split ! $ move ! (0 ∷ 2 ∷ 3 ∷ 4 ∷ 5 ∷ 6 ∷ 7 ∷ 8 ∷ 9 ∷ []) $
           -- [the views; the token; the strips; dead; their list; what is so of it; the words; the strip; the type's token; the seat]
           let st : State R.Denot V W = state_of z t in
           let y : BaseId = anew a γ in let E : Fml = everything R own cv' (after st) (core_of y) in let β : Lft = age y in
-          let r = law st sound.0 home knows in let n : Inside R.Denot V' W' = record { parts = t.parts; blank = blank t.blank; views = views_of who; world = r.0 } in
+          let r = law st sound.0 home knows in let n : Inside R.Denot V' W' = record { parts = t.parts; blank = blank t.blank; views = over t.views; world = r.0 } in
           let New : Fml = strips R β δ (Lent st y) (Has st y) ss cs in
           move ! (3 ∷ 8 ∷ []) $ join ! $ move ! (3 ∷ 0 ∷ []) $
           use2 𝓛 (later (‵ New ⊛ ‵ (fdead α) ⊛ ‵ (flft τ s))) (lends_strips st y τ s shares inc ss cs) $ await ! tt $ split ! $
@@ -209,9 +211,61 @@ module _ {M : Type 1} {𝓤 : Ura M} (𝓛 : Logic 𝓤) (R : RattleType) (own :
           -- [the memory; dead and the type's token; the seat]
           move ! (1 ∷ []) $ split ! $ leave ! $ move ! (1 ∷ 2 ∷ []) $
           let u : BaseId × State R.Denot V W = (y, st) in
-          use2 𝓛 (raw (ex 𝓤 Renewed)) (via 𝓤 (Renewed u) (guard_i 𝓤 (IsGone u) (⟦ words_own R own cv' (after st) p y ⟧ ∗ ⟦ seat_of y.views_name who ⟧)
+          use2 𝓛 (raw (ex 𝓤 Renewed)) (via 𝓤 (Renewed u) (guard_i 𝓤 (IsGone u) (⟦ words_own R own cv' (after st) p y ⟧ ∗ ⟦ Sits y.views_name ⟧)
           ((refl, refl, refl, refl, refl, refl, refl, refl, refl, refl, refl, refl, refl, refl, refl), (sound.0, home, knows))) (ex_i 𝓤 Renewed u)) $
           now ! $ done !))))))))
+
+  -- with no seat, or with one that comes
+  pub goes_on : (K : Fml) (Knows : List V → Type 0) (shows : (d : V) (vs : List V) → ⟦ sitting α cv z.views_name d vs ⟧ ∗ ⟦ K ⟧
+      ⊢ guard 𝓤 (Knows vs) (⟦ sitting α cv z.views_name d vs ⟧ ∗ ⟦ K ⟧)) (who : Option V') (comes : IsHome who) (blank : V → V')
+      (law : (s : State R.Denot V W) → holds s → AreAllBack cv.away s.views → Knows s.views
+      → (w : W') × after s record { memory = s.memory; views = views_of who; world = w }) (τ : Lft) (s : Share) (shares : Shares 𝓛 (OptionOf R) (OptionOf R).lives)
+      (inc : Incl τ (OptionOf R).lives) → ⟦ words_own R own cv holds p z ⟧ ∗ ⟦ K ⟧ ∗ A.lft τ s
+      ⊢ H.⇛ (ex 𝓤 (λ (u : BaseId × State R.Denot V W). guard 𝓤 (IsLike u.0 z × WasFound cv.away holds Knows u.1)
+      (⟦ words_own R own cv' (after u.1) p u.0 ⟧ ∗ ⟦ seat_of u.0.views_name who ⟧)) ∗ A.lft τ s ∗ ⟦ K ⟧)
+  goes_on K Knows shows who comes blank =
+      goes_over K Knows shows (λ _. views_of who) (λ γ. seat_of γ who) (λ a d vs knows. sits_down a d who comes) blank
+
+  -- with the same seats, one of which is had
+  module _ (id : ℕ) (left : V → V') (heir : V') (home : (v : V) → cv'.away (left v) ≡ None) (comes : cv'.away heir ≡ None) where
+    abbrev Seat : ℕ → ℕ → Fml
+    Seat γ i = seen cv'.code γ three_quarters i heir
+
+    -- they come one after another
+    all_sit : (a γ : ℕ) (d : V') (come : List V') (vs : List V) → ⟦ sitting (a ∷ []) cv' γ d come ⟧ ⊢ H.⇛ ⟦ sitting (a ∷ []) cv' γ d (come ++ map left vs) ⟧
+    all_sit a γ d come [] = qed 𝓛 (‵ (sitting (a ∷ []) cv' γ d come) ∷ []) ∵ updating ! $
+        rewrite ! 0 (λ (us : List V'). ‵ (sitting (a ∷ []) cv' γ d us)) (sym (append-nil come)) refl $ now ! $ done !
+    all_sit a γ d come (v ∷ vs) = qed 𝓛 (‵ (sitting (a ∷ []) cv' γ d come) ∷ []) ∵ updating ! $
+        use1 𝓛 (later (‵ (sitting (a ∷ []) cv' γ d (come ++ left v ∷ [])) ⊛ ‵ (seen cv'.code γ three_quarters (length come) (left v))))
+        (via 𝓤 _ (Sitters.comes 𝓛 (a ∷ []) cv' γ d come (left v) (home v)) (basic 𝓛 _)) $ await ! tt $ split ! $ keep ! (0 ∷ []) $
+        use1 𝓛 (later (‵ (sitting (a ∷ []) cv' γ d ((come ++ left v ∷ []) ++ map left vs)))) (all_sit a γ d (come ++ left v ∷ []) vs) $ await ! tt $
+        rewrite ! 0 (λ (us : List V'). ‵ (sitting (a ∷ []) cv' γ d us)) (append_assoc come (left v ∷ []) (map left vs)) refl $ now ! $ done !
+
+    heir_sits : (a γ : ℕ) (d : V') (come : List V') (vs : List V) (i : ℕ) (v : V) → slice_get vs i ≡ Some v
+        → ⟦ sitting (a ∷ []) cv' γ d come ⟧ ⊢ H.⇛ (⟦ sitting (a ∷ []) cv' γ d (come ++ slice_set (map left vs) i heir) ⟧ ∗ ⟦ Seat γ (length come + i) ⟧)
+    heir_sits a γ d come [] i v at = absurd (cc at)
+    heir_sits a γ d come (u ∷ us) zero v at =
+        let here : length come ≡ length come + 0 = omega arith in qed 𝓛 (‵ (sitting (a ∷ []) cv' γ d come) ∷ []) ∵ updating ! $
+        use1 𝓛 (later (‵ (sitting (a ∷ []) cv' γ d (come ++ heir ∷ [])) ⊛ ‵ (Seat γ (length come)))) (via 𝓤 _ (Sitters.comes 𝓛 (a ∷ []) cv' γ d come heir comes) (basic 𝓛 _)) $
+        await ! tt $ split ! $ use1 𝓛 (later (‵ (sitting (a ∷ []) cv' γ d ((come ++ heir ∷ []) ++ map left us)))) (all_sit a γ d (come ++ heir ∷ []) us) $ await ! tt $
+        rewrite ! 0 (λ (ws : List V'). ‵ (sitting (a ∷ []) cv' γ d ws)) (append_assoc come (heir ∷ []) (map left us)) refl $
+        rewrite ! 1 (λ (k : ℕ). ‵ (Seat γ k)) here refl $ now ! $ done !
+    heir_sits a γ d come (u ∷ us) (suc i) v at = let rest : List V' = slice_set (map left us) i heir in let more : List V' = come ++ left u ∷ [] in
+        let there : length more + i ≡ length come + suc i = omega (arith, length-append come (left u ∷ [])) in qed 𝓛 (‵ (sitting (a ∷ []) cv' γ d come) ∷ []) ∵ updating ! $
+        use1 𝓛 (later (‵ (sitting (a ∷ []) cv' γ d more) ⊛ ‵ (seen cv'.code γ three_quarters (length come) (left u))))
+        (via 𝓤 _ (Sitters.comes 𝓛 (a ∷ []) cv' γ d come (left u) (home u)) (basic 𝓛 _)) $ await ! tt $ split ! $ keep ! (0 ∷ []) $
+        use1 𝓛 (later (‵ (sitting (a ∷ []) cv' γ d (more ++ rest)) ⊛ ‵ (Seat γ (length more + i)))) (heir_sits a γ d more us i v at) $ await ! tt $ split ! $
+        rewrite ! 0 (λ (ws : List V'). ‵ (sitting (a ∷ []) cv' γ d ws)) (append_assoc come (left u ∷ []) rest) refl $
+        rewrite ! 1 (λ (k : ℕ). ‵ (Seat γ k)) there refl $ now ! $ done !
+
+    pub sits_again : (v : V) (a : ℕ) (d : V') (vs : List V) → slice_get vs id ≡ Some v
+        → ent 𝓤 (emp 𝓤) (H.⇛ (ex 𝓤 (λ (γ : ℕ). ⟦ sitting (a ∷ []) cv' γ d (slice_set (map left vs) id heir) ⟧ ∗ ⟦ Seat γ id ⟧)))
+    sits_again v a d vs at = let ws : List V' = slice_set (map left vs) id heir in
+        let Had : ℕ → Pr = λ γ. ⟦ sitting (a ∷ []) cv' γ d ws ⟧ ∗ ⟦ Seat γ id ⟧ in let same : 0 + id ≡ id = omega arith in qed 𝓛 [] ∵ updating ! $
+        use0 𝓛 (later (items (λ (γ : ℕ). ‵ (sitting (a ∷ []) cv' γ d [])))) (via 𝓤 _ (Sitters.begins 𝓛 (a ∷ []) cv' 0 d)
+        (basic 𝓛 (ex 𝓤 (λ (γ : ℕ). ⟦ sitting (a ∷ []) cv' γ d [] ⟧)))) $ await ! tt $ pick ! (λ γ.
+        use1 𝓛 (later (‵ (sitting (a ∷ []) cv' γ d ws) ⊛ ‵ (Seat γ (0 + id)))) (heir_sits a γ d [] vs id v at) $ await ! tt $ split ! $
+        rewrite ! 1 (λ (k : ℕ). ‵ (Seat γ k)) same refl $ now ! $ show ! Had γ $ done !)
 
   -- a seat shows its view
   pub shows_itself : (id : ℕ) (v : V) (d : V) (vs : List V) → ⟦ sitting α cv z.views_name d vs ⟧ ∗ ⟦ seen cv.code z.views_name three_quarters id v ⟧

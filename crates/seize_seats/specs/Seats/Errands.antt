@@ -1,6 +1,6 @@
 -- Errands. A seat that is on an errand has left a part of the token of the memory's lifetime, so as long as it is nobody has the memory to himself; a seat that is on
 -- none rests. Rules speak of views alone, and know of no errands.
-use Rattle.std.specs.Prelude.{◌≡◌, ◌⊎◌, ℕ, List, [], ◌∷◌, Option, Some, None, map, slice_get}
+use Rattle.std.specs.Prelude.{◌≡◌, ◌⊎◌, ℕ, List, [], ◌∷◌, Option, Some, None, map, slice_get, slice_set}
 use base.Stored.{Gv, Coded, coded×, coded_ℕ, coded_list, coded_via}
 use base.SetCodes.{coded_share}
 use Rattle.std.specs.Coded.{coded_option}
@@ -174,6 +174,12 @@ RenewsIdle rests holds = RenewsTo rests holds holds []
 abbrev pub RenewsFrom : {T V W V' W' : Type 0} → (V → Type 0) → (State T V W → Type 0) → (State T V' W' → Type 0) → ℕ → V → Type 0
 RenewsFrom {T} {V} {W} {V'} {W'} rests holds after id v =
     (s : State T V W) → holds s → view_of s id ≡ Some v → AreIdle rests s → (w : W') × after record { memory = s.memory; views = []; world = w }
+
+-- with the same seats, where it is known of one what it knew: that one knows this, and each other one what its view goes over into
+abbrev pub RenewsInto : {T V W V' W' : Type 0} → (V → Type 0) → (State T V W → Type 0) → (State T V' W' → Type 0) → ℕ → V → (V → V') → V' → Type 0
+RenewsInto {T} {V} {W} {V'} {W'} rests holds after id v left heir =
+    (s : State T V W) → holds s → view_of s id ≡ Some v → AreIdle rests s
+    → (w : W') × after record { memory = s.memory; views = slice_set (map left s.views) id heir; world = w }
 
 -- an errand keeps nothing of its own
 abbrev pub keeps_away : {V W : Type 0} → (V → V → W → ℕ → Type 0) → V × Away → V × Away → W → ℕ → Type 0

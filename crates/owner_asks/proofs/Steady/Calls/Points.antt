@@ -29,7 +29,7 @@ use Rattle.owner_calls.specs.Given.ResizeDeclared.dispose.Dispose.{Dispose}
 use Rattle.papaya_raw.specs.Call.{call_plan, disposed, disposes, key_read, next_found, next_read, pair_read, probes, root_found, root_read, tried, tries, word_found, word_read}
 use Rattle.papaya_raw.specs.Call as calls
 use Rattle.papaya_raw.specs.CallAsks.{present_replied, replied, replied_at}
-use Rattle.papaya_raw.specs.CallPoints.{aim_of, answering, asking_of, at_free, at_last, at_pair, beyond, burying, changed, counted, ending, entering, following_made, going, halted, having_met, over, pair_by, passed, standing, tableless, told, after_finding}
+use Rattle.papaya_raw.specs.CallPoints.{aim_of, answering, asking_of, at_free, at_last, at_pair, beyond, burying, changed, counted, ending, entering, following_made, going, having_met, over, pair_by, passed, standing, tableless, told, after_finding}
 use Rattle.papaya_raw.specs.CallPoints as points
 use Rattle.papaya_raw.specs.declared.machines.answer.Called.{Called}
 use Rattle.papaya_raw.specs.declared.machines.answer.Called.TheVariants as called

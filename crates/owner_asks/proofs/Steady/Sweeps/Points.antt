@@ -23,7 +23,7 @@ use Rattle.owner_calls.specs.Given.ResizeDispose.{dispose_plan}
 use Rattle.owner_calls.specs.Given.ResizeDeclared.dispose.Dispose.{Dispose}
 use Rattle.papaya_raw.specs.Given.SweepsSweep.{counts, disposed, next_read, root_read, sweep_plan, tried, tries, word_found, words}
 use Rattle.papaya_raw.specs.Given.SweepsSweep as sweeps
-use Rattle.papaya_raw.specs.Given.SweepsSweepPoints.{after_reply, at_end, at_pair, beginning, entering, further, going, past, removes, reply_at, seen, standing, tableless, telling}
+use Rattle.papaya_raw.specs.Given.SweepsSweepPoints.{after_reply, at_end, at_pair, beginning, entering, further, past, removes, reply_at, seen, standing, tableless, telling}
 use Rattle.papaya_raw.specs.Given.SweepsSweepPoints as points
 use Rattle.papaya_raw.specs.Given.ReservesDeclared.sweep.Purpose.{Purpose}
 use Rattle.papaya_raw.specs.Given.ReservesDeclared.sweep.Purpose.TheVariants.{Walks, Clears, Retains}

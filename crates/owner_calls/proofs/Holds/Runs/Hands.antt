@@ -6,7 +6,6 @@ use Rattle.seize_words.specs.OneMemory.Plan.{May, Steps}
 use Rattle.seize_words.specs.OneMemory.Word.{block_in}
 use Rattle.seize_words.proofs.OneMemory.OneOwner.Operations.{taken}
 use Rattle.seize_words.proofs.OneMemory.Plans.{may_as}
-use Rattle.seize.specs.Leave.{leave_plan}
 use Rattle.seize.specs.Leave as leaves
 use Rattle.seize.specs.Settle.{settle_plan, given_back}
 use Rattle.seize.specs.Settle as settles

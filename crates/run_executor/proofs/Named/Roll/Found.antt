@@ -11,7 +11,6 @@ use Rattle.run_executor.specs.Named.Roll.{at_place, called, name_of, newest}
 use Rattle.run_executor.specs.Named.Seen.{is_named}
 use Rattle.run_executor.specs.declared.caller.NamedCaller.{NamedCaller}
 use Rattle.run_executor.proofs.Named.Roll.Newest.{no_position, seat, seat_get, seat_gone, seat_position, seat_set}
-use Rattle.seize_words.proofs.General.{same_some as the_one}
 
 module _ {V : Type 0} (name : List ℕ) (shown comers : List (Option (NamedCaller V))) (places : NameIndex) (same : shown ≡ comers) (leads : LeadsHome name_of comers places) where
   pub absent_none : IsAbsent name_of name shown → position (is_named name) (newest comers) ≡ None

@@ -5,12 +5,11 @@ use Rattle.run_places.specs.Given.SeizeWordsMem.{value_at}
 use Rattle.run_places.specs.Given.SeizeWordsWord.{block_in}
 use Rattle.run_places.specs.Given.SeizeWordsDeclared.at.At.TheVariants.{Root, Used, Slot, Entry, Word}
 use Rattle.run_places.specs.Given.SeizeLaw.{holds, is_somewhere}
-use Rattle.run_places.specs.Given.SeizeWorld.{World, IsInside, InUse}
+use Rattle.run_places.specs.Given.SeizeWorld.{World, InUse}
 use Rattle.run_places.specs.Given.SeizeDeclared.advance.Advance.{Advance}
 use Rattle.run_places.specs.Given.SeizeDeclared.advance.Advance.TheVariants as progress
 use Rattle.run_places.proofs.Given.SeizeMovesState.Logs.{reached_held}
 use Rattle.run_places.proofs.Given.SeizeAloneHistories.Reached.{Reached, runs_reached}
-use Rattle.run_places.proofs.Given.SeizeAloneHistories.Uses.{inside_open}
 use Rattle.run_places.specs.Given.TablesNodes.{deferred_word}
 use Rattle.run_places.specs.Given.TablesDeclared.node.Node.{Node}
 use Rattle.run_places.specs.Given.TablesDeclared.setting.Setting.{Setting}

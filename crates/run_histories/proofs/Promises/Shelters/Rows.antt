@@ -43,7 +43,6 @@ use Rattle.run_places.proofs.Given.ScenesMay.{may_row}
 use Rattle.run_places.specs.Given.ScenesHeld.{Held, IsAt}
 use Rattle.run_places.specs.Given.ScenesOnSlots.{HappensAt, RowSteps}
 use Rattle.run_places.specs.Given.ScenesScene.{IsOnSlot, Scene}
-use Rattle.run_places.proofs.Given.General.{both_true}
 use Rattle.run_places.proofs.Spots.Unreclaimed.{table_is as tables_are}
 
 -- two things that are the same

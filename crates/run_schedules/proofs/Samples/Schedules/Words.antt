@@ -24,7 +24,6 @@ use Rattle.run_schedules.specs.Schedules.Terms.{Terms}
 use Rattle.run_schedules.specs.Schedules.Moment.{Place, InMap, Behind, Moment}
 use Rattle.run_schedules.specs.Schedules.Entry.{Entry}
 use Rattle.run_schedules.specs.Schedules.Tries.{try_at, has_pair_at, is_taken_at, Meets}
-use Rattle.seize_words.proofs.General.{either, true_not_false as yes_no}
 
 -- a test is not passed and failed
 pub no_yes : false ≡ true → ⊥

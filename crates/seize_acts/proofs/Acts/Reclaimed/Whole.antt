@@ -14,7 +14,7 @@ use Rattle.seize.specs.Register.{register_plan}
 use Rattle.seize.specs.Enter.{enter_plan, unregister_plan}
 use Rattle.seize.specs.Law.{Entered}
 use Rattle.seize.specs.World as world
-use Rattle.seize.specs.World.{World, Row, Rests, Registers, Enters, Settles, Leaves, Defers, Frees, Use, Vacant, Outside, Inside, Changing, Request, Register', Leave', Flush, Unregister', Steps', Begins, IsTaken, registers_on, settles_on, leaves_on, defers_on, with_row, with_use, one_more}
+use Rattle.seize.specs.World.{World, Row, Rests, Registers, Enters, Settles, Leaves, Defers, Frees, Use, Vacant, Outside, Inside, Changing, Request, Register', Leave', Flush, Unregister', Steps', Begins, IsTaken, registers_on, settles_on, leaves_on, defers_on, with_use}
 use Rattle.seize.specs.Sequence.{RunsOn, Calls, Whole, changes}
 use Rattle.seize_model.proofs.Given.SeizeRuleRows.Others.{with_here}
 use Rattle.seize_model.proofs.Given.SeizeRuleWorld.Kept.{row_may}

@@ -1,6 +1,6 @@
 use Rattle.std.specs.Prelude.{Result, Ok, Err, IfOk, IfErr, Option, None, IfSome}
 use Rattle.std.specs.Result.{result_ok}
-use Rattle.std.proofs.Common.{◌≡◌, ℕ, Some, arith, ap, sym, subst, ◌∙◌}
+use Rattle.std.proofs.Common.{◌≡◌, ℕ, Some, arith, sym, subst}
 use Rattle.seize_collector.proofs.tests.hands_abroad.Goals as goal
 
 -- what is so of what an answer holds

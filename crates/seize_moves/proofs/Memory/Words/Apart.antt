@@ -7,7 +7,6 @@ use Rattle.seize_moves.proofs.Moves.State.Ghost.{put, is_in, is_pending, Stage, 
 use Rattle.seize_moves.proofs.Moves.State.Rule.{IsLive, SameUnlessDead, Places}
 use Rattle.seize_moves.proofs.Memory.Words.Chains.{chain_apart, waiting, first_or, blocks_of}
 use Rattle.seize_moves.proofs.Memory.Words.Shows.{LinkedIs, DeferredIs, NextIs, HeadIs, CountIs, stands}
-use Rattle.seize_moves.proofs.Moves.State.Sums.{put_one}
 
 pub count_waiting : (c : ℕ) (p : Bool) (l : List ℕ) → count c (waiting p l) ≤ count c l
 count_waiting c false l = omega arith

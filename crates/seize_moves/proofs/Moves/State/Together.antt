@@ -1,5 +1,5 @@
 -- The rule at the start, moves one after another, and what a row may rely on within a section.
-use Rattle.std.proofs.Common.{◌≡◌, ℕ, ◌≤◌, ◌+◌, Bool, true, false, eqb, [], refl, arith, ◌∙◌, eqb-true}
+use Rattle.std.proofs.Common.{◌≡◌, ℕ, ◌+◌, Bool, true, false, eqb, [], refl, arith, ◌∙◌, eqb-true}
 use Rattle.std.proofs.lemmas.Bool.{eqb-false}
 use Rattle.seize_moves.proofs.Moves.State.Ghost.{State, Stage, Unused, Open, Closing, Closed, Dead, IsDoomed, Marked, was_put, start, list_of}
 use Rattle.seize_moves.proofs.Moves.State.Rule.{Inv, IsOf, SameRow, SameBatch, SameSlot, row_of, batch_of, slot_of, same_row, same_batch, same_slot, Grows, Keeps, Moved, Pending}

@@ -6,7 +6,7 @@ use seplogic.Ra.Ura.{Ura}
 use base.Logic.{SProp, ent, sep, wand, ex, all, guard, apply∗, all_e}
 use base.Fml.{Share, Fml, ftrue, fsep}
 use types.Logic.{Logic, sem}
-use types.Kit.{‵, raw, ◌⊛◌, given, ◌$◌, ◌∵◌, !, qed, by, move, drop as leave, split, frame, each, assume, fsplit, fjoin, fpick, fpack, learn, check, show, use1, use2, rewrite, done}
+use types.Kit.{‵, raw, ◌⊛◌, given, ◌$◌, ◌∵◌, !, qed, move, drop as leave, split, frame, each, assume, fsplit, fjoin, fpick, fpack, learn, check, show, use1, use2, rewrite, done}
 use denote.RawPtr.{Ptr, null_ptr, block_of, count_of}
 use denote.Steps.{nothing}
 use Rattle.core.specs.Sync.RawAtomic.{word}

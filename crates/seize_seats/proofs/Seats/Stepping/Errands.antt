@@ -11,7 +11,7 @@ use Rattle.seize_words.specs.OneMemory.Op.{Op, Out, Take}
 use Rattle.seize_seats.specs.Seats.State.{State, view_of, Goes, Allows, Turns, Learns, Starts, Comes, Meets}
 use Rattle.seize_seats.specs.Seats.State as State
 use Rattle.seize_seats.specs.Seats.Lendings.{VisibleToBoth, IsValueOf, IsValueOfBoth}
-use Rattle.seize_seats.specs.Seats.Errands.{Away, Anyone, Lends, AreUnlent, inward, AreResting, AreLeaning, HoldsAway, IsUnlent, TurnsUnlent, AreIdle, AreAllBack, RenewsBack, RenewsIdle, RenewsTo, RenewsFrom, keeps_away, then_away, MayGo, MayGoAll, MayLean, MayLeanAll, MayMeet, MayLeanBoth}
+use Rattle.seize_seats.specs.Seats.Errands.{Away, Anyone, Lends, AreUnlent, inward, AreResting, AreLeaning, HoldsAway, IsUnlent, TurnsUnlent, AreIdle, AreAllBack, RenewsBack, RenewsIdle, RenewsTo, RenewsFrom, RenewsInto, keeps_away, then_away, MayGo, MayGoAll, MayLean, MayLeanAll, MayMeet, MayLeanBoth}
 use Rattle.seize_seats.proofs.Seats.Views.Ledgers.{other_view}
 use Rattle.seize_seats.proofs.Seats.Stepping.Visits.{own_view, among}
 
@@ -20,6 +20,24 @@ pub mapped_at : {A B : Type 0} (f : A → B) (xs : List A) (i : ℕ) (y : B) →
 mapped_at f [] i y at = absurd (cc at)
 mapped_at f (x ∷ xs) zero y at = (x, refl, cc at)
 mapped_at f (x ∷ xs) (suc i) y at = mapped_at f xs i y at
+
+-- what is so of one, and of each of a list, is so of each of the list where that one is put in
+pub set_all : {A : Type 0} (P : A → Type 0) (us : List A) (id : ℕ) (x : A) → P x → ((i : ℕ) (u : A) → slice_get us i ≡ Some u → P u)
+    → (i : ℕ) (u : A) → slice_get (slice_set us id x) i ≡ Some u → P u
+set_all {A} P us id x one all i u is = by (cases_eq i id)
+  where
+    by : (i ≡ id) ⊎ (i ≢ id) → P u
+    by (inl same) = subst P (own_view us i x u (ap (λ (j : ℕ). slice_get (slice_set us j x) i) same ∙ is)) one
+    by (inr ne) = all i u (sym (other_view us id i x ne) ∙ is)
+
+-- images of images, one of them put in, where two ways lead to the same
+module _ {A B C D : Type 0} (f : A → B) (p : B → C) (q : A → D) (r : D → C) (same : (a : A) → p (f a) ≡ r (q a)) where
+  map_left : (us : List A) → map p (map f us) ≡ map r (map q us)
+  map_left [] = refl
+  map_left (u ∷ us) = ap (λ (c : C). c ∷ map p (map f us)) (same u) ∙ ap (λ (cs : List C). r (q u) ∷ cs) (map_left us)
+
+  pub set_left : (us : List A) (id : ℕ) (x : B) → map p (slice_set (map f us) id x) ≡ slice_set (map r (map q us)) id (p x)
+  set_left us id x = map-set p (map f us) id x ∙ ap (λ (cs : List C). slice_set cs id (p x)) (map_left us)
 
 -- upright: one at rest leans on nobody
 module _ {T V W : Type 0} (rests : V → Type 0) (leans : V → ℕ → Type 0) (upright : (v : V) (n : ℕ) → rests v → leans v n → ⊥) (holds : State T V W → Type 0)
@@ -245,6 +263,32 @@ module _ {T V W : Type 0} (rests : V → Type 0) (leans : V → ℕ → Type 0) 
     pub ends_alone : (id : ℕ) (v : V) (e : Away) → RenewsFrom rests holds after id v → (s : St) → Hold s → AreAllBack (λ (u : V × Away). u.1) s.views
         → slice_get s.views id ≡ Some (v, e) → (w : W') × Then record { memory = s.memory; views = []; world = w }
     ends_alone id v e law s h back at = let r = law (inward s) h.0 (inward_view s id (v, e) at) (idle s h back) in (r.0, (r.1, (λ i u is. absurd (cc is)), λ i u k is lean. absurd (cc is)))
+
+    -- with the same seats, and each one rests
+    module _ (left : V → V') (heir : V') (resting : (v : V) → rests v → rests' (left v)) (rest : rests' heir) where
+      abbrev leaves : V × Away → V' × Away
+      leaves u = (left u.0, None)
+
+      abbrev pub all_left : List (V × Away) → ℕ → List (V' × Away)
+      all_left us id = slice_set (map leaves us) id (heir, None)
+
+      pub inherits_alone : (id : ℕ) (v : V) (e : Away) → RenewsInto rests holds after id v left heir → (s : St) → Hold s → AreAllBack (λ (u : V × Away). u.1) s.views
+          → slice_get s.views id ≡ Some (v, e) → (w : W') × Then record { memory = s.memory; views = all_left s.views id; world = w }
+      inherits_alone id v e law s h back at =
+          let r = law (inward s) h.0 (inward_view s id (v, e) at) (idle s h back) in (
+            r.0,
+            (
+              subst (λ (vs : List V'). after record { memory = s.memory; views = vs; world = r.0 })
+                  (sym (set_left leaves (λ (u : V' × Away). u.0) view left (λ u. refl) s.views id (heir, None))) r.1,
+              λ i u is. rested i (first u None) is,
+              λ i u k is lean. absurd (upright' u.0 k (rested i u is) lean),
+            ),
+          )
+        where
+          rested : (i : ℕ) (u : V' × Away) → slice_get (all_left s.views id) i ≡ Some u → rests' u.0
+          rested = set_all (λ (u : V' × Away). rests' u.0) (map leaves s.views) id (heir, None) rest (λ i u is.
+              (let k = mapped_at leaves s.views i u is in
+              subst (λ (x : V' × Away). rests' x.0) k.2 (resting k.0.0 (idle s h back i k.0.0 (inward_view s i k.0 k.1)))))
 
   pub shown_both_away : (i : ℕ) (v : V) (e : Away) (j : ℕ) (u : V) (f : Away) (b : ℕ) → VisibleToBoth holds i v j u b
       → VisibleToBoth Hold i (v, e) j (u, f) b

@@ -11,7 +11,6 @@ use types.Within.{tokens_halve}
 use denote.RattleType.{RattleType}
 use denote.RawPtr.{Ptr}
 use denote.Steps.{nothing}
-use base.Share.{three_quarters}
 use Rattle.seize_seats.specs.Seats.State.{State, view_of}
 use Rattle.seize_seats.specs.Seats.State as State
 use Rattle.seize_seats.specs.Seats.Lines.{AreLaid}

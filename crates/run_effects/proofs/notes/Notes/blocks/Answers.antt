@@ -1,5 +1,5 @@
 -- Past the list there is no block.
-use Rattle.std.proofs.Common.{arith, ◌∙◌}
+use Rattle.std.proofs.Common.{arith}
 use Rattle.std.proofs.Math.ListN.{get_or-eq_default}
 use Rattle.run_effects.specs.declared.role.Role.TheVariants.{Free}
 use Rattle.run_effects.proofs.notes.Notes.blocks.Goals as goal

@@ -1,6 +1,5 @@
 use Rattle.std.specs.Prelude.{◌+◌, ℕ}
 use Rattle.std.proofs.Common.{◌≡◌, arith, subst}
-use Rattle.seize.specs.World.{World}
 use Rattle.seize_seats.specs.Seats.State.{Starts}
 use Rattle.seize_views.specs.Views.Notes.{NotedHolds}
 use Rattle.seize_views.specs.declared.view.Fixed.{Fixed}

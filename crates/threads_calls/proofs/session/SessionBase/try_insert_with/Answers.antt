@@ -1,5 +1,5 @@
 use Rattle.std.specs.Fn.{FnOnceReturns}
-use Rattle.std.proofs.Common.{refl, sym}
+use Rattle.std.proofs.Common.{refl}
 use Rattle.threads_callers.specs.Given.StepsAsking.{MakingSays}
 use Rattle.threads_callers.specs.Given.ViewsLooks.{shown_in}
 use Rattle.threads_callers.proofs.Given.StepsAnswering.{answers_one}
