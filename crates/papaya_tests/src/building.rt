@@ -1,6 +1,6 @@
-//! How maps are built, and why one is refused: the first reason that there is; and two threads that meet within closures in one that was built.
-use crate::{Hashing, LOOKS, Map, Own, Told};
-use papaya::{Collector, Fault, HashMap, IdSource, Operation, ResizeMode};
+//! How maps are built, and why one is refused: the first reason that there is; what stays in one between sessions; clones; and two threads that meet within closures.
+use crate::{Hashing, LOOKS, Map, Own, Told, made};
+use papaya::{Collector, Fault, HashMap, IdSource, Operation, Registration, ResizeMode};
 use std::alloc::Global;
 use std::hash::RandomState;
 use std::sync::Wait;
@@ -86,4 +86,61 @@ pub(crate) fn meet<R: Threads + Wait + Clock + Sync>(rt: &R, made: Told<Map>) ->
         || computes(rt, second, 2, &other, &one),
     );
     Ok([a?, b?] == [Some(1); 2])
+}
+
+/// Stores a key in a section of a registration that it was sent, which it answers back.
+fn enters<'m, R: Wait>(
+    rt: &R,
+    registration: Registration<'m, u64, u64, Hashing>,
+) -> Told<Registration<'m, u64, u64, Hashing>> {
+    let mut session = registration.enter();
+    let _ = session.insert(rt, 1, 2)?;
+    Ok(session.leave())
+}
+
+/// Tells whether the next section of a registration finds what a session has stored, another thread in a section of that registration, and a further session meanwhile; and not
+/// what none has stored.
+pub(crate) fn stays<R: Threads + Wait + Sync>(rt: &R, alloc: Global) -> Told<bool> {
+    let made = made(alloc, ResizeMode::default())?;
+    let map = made.shared();
+    let mut first = map.session()?;
+    let _ = first.insert(rt, 5, 6)?;
+    first.refresh();
+    drop(first);
+    let registration = map.register()?;
+    let (registration, ()) = thread::join(rt, || enters(rt, registration), || ());
+    let registration = registration?;
+    let _ = map.session()?.insert(rt, 3, 4)?;
+    let mut next = registration.enter();
+    let found = [
+        next.get(rt, &5).copied(),
+        next.get(rt, &1).copied(),
+        next.get(rt, &3).copied(),
+        next.get(rt, &7).copied(),
+    ];
+    Ok(found == [Some(6), Some(2), Some(4), None])
+}
+
+/// Whether each of two maps says that the other one is the same, or is not.
+fn alike<R: Wait>(rt: &R, one: &mut Own<'_>, other: &mut Own<'_>) -> Told<[bool; 2]> {
+    Ok([one.same(rt, other)?, other.same(rt, one)?])
+}
+
+/// Tells whether a map and its clones are the same: the empty one, and one of two pairs, until a pair is stored there, and still not once its value is another one.
+pub(crate) fn copies<R: Wait>(rt: &R, alloc: Global) -> Told<bool> {
+    let mut ids = IdSource::new();
+    let map = Map::with_hasher(alloc, &mut ids, Hashing::default())?;
+    let none = map.clone(rt, alloc, &mut ids)?;
+    let (mut own, mut empty) = (map.session()?, none.session()?);
+    let at_first = alike(rt, &mut own, &mut empty)?;
+    own.extend(rt, [(0, 10), (10, 0)])?;
+    let then = alike(rt, &mut own, &mut empty)?;
+    let two = map.clone(rt, alloc, &mut ids)?;
+    let mut copy = two.session()?;
+    let cloned = alike(rt, &mut own, &mut copy)?;
+    let _ = copy.insert(rt, 100, 1)?;
+    let more = alike(rt, &mut own, &mut copy)?;
+    let _ = own.insert(rt, 100, 2)?;
+    let other = alike(rt, &mut own, &mut copy)?;
+    Ok([at_first, cloned] == [[true; 2]; 2] && [then, more, other] == [[false; 2]; 3])
 }

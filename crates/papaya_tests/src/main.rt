@@ -3,10 +3,8 @@
 #![tactic(auto)]
 
 mod building;
-mod copying;
 mod foreign;
 mod keys;
-mod opening;
 mod passing;
 mod rows;
 mod sets;
@@ -74,61 +72,28 @@ fn of_mode<R: Threads + Wait + Clock + Sync + Print>(
     mode: ResizeMode,
 ) -> io::Result<bool> {
     println!(rt; "{mode:?}")?;
-    let so = [
-        tells(
-            rt,
-            "calls on a key are in turn",
-            keys::meet(rt, made(alloc, mode)),
-        )?,
-        tells(rt, "no count is lost", keys::count(rt, made(alloc, mode)))?,
-        tells(
-            rt,
-            "closures meet",
-            building::meet(rt, building::built(alloc, mode)),
-        )?,
-        tells(
-            rt,
-            "a map has many pairs",
-            whole::has_many(rt, made(alloc, mode)),
-        )?,
-        tells(
-            rt,
-            "keys stay while room is made",
-            whole::grows(rt, made(alloc, mode)),
-        )?,
-        tells(
-            rt,
-            "walks show what stays, and meet",
-            whole::meet(rt, made(alloc, mode)),
-        )?,
-        tells(
-            rt,
-            "clearing leaves what came later",
-            whole::clears(rt, made(alloc, mode)),
-        )?,
-        tells(rt, "passes meet", passing::meet(rt, made(alloc, mode)))?,
-        tells(
-            rt,
-            "no pass is led back",
-            passing::follow(rt, made(alloc, mode)),
-        )?,
-        tells(
-            rt,
-            "two settle on one value",
-            passing::settle(rt, made(alloc, mode)),
-        )?,
-        tells(
-            rt,
-            "calls on an element are in turn",
-            sets::change(rt, sets::built(alloc, mode)),
-        )?,
-        tells(
-            rt,
-            "passes and walks of a set meet",
-            sets::meet(rt, sets::built(alloc, mode)),
-        )?,
-    ];
-    Ok(so == [true; 12])
+    let is_so = keys::meet(rt, made(alloc, mode));
+    let mut all = tells(rt, "of two calls on a key one comes first", is_so)?;
+    let is_so = keys::count(rt, made(alloc, mode));
+    all = tells(rt, "no count is lost where two count", is_so)? && all;
+    let is_so = building::meet(rt, building::built(alloc, mode));
+    all = tells(rt, "two calls ask their closures at a time", is_so)? && all;
+    let is_so = whole::grows(rt, made(alloc, mode));
+    all = tells(rt, "keys are found while room is made", is_so)? && all;
+    let is_so = whole::meet(rt, made(alloc, mode));
+    all = tells(rt, "two walks show what stays, and meet", is_so)? && all;
+    let is_so = whole::clears(rt, made(alloc, mode));
+    all = tells(rt, "pairs are counted and cleared while others come", is_so)? && all;
+    let is_so = passing::meet(rt, made(alloc, mode));
+    all = tells(rt, "two passes under one guard meet", is_so)? && all;
+    let is_so = passing::follow(rt, made(alloc, mode));
+    all = tells(rt, "no pass is led back while values are replaced", is_so)? && all;
+    let is_so = passing::settle(rt, made(alloc, mode));
+    all = tells(rt, "two are lent the value on which they settle", is_so)? && all;
+    let is_so = sets::change(rt, sets::built(alloc, mode));
+    all = tells(rt, "of two calls on an element one comes first", is_so)? && all;
+    let is_so = sets::meet(rt, sets::built(alloc, mode));
+    Ok(tells(rt, "two passes and two walks of a set meet", is_so)? && all)
 }
 
 /// Prints what is so of maps and sets whatever their mode is, and answers whether all is.
@@ -136,46 +101,25 @@ fn of_any<R: Threads + Wait + RandomSource + Sync + Print>(
     rt: &R,
     alloc: Global,
 ) -> io::Result<bool> {
-    let (one, other) = (RandomState::new(rt)?, RandomState::new(rt)?);
-    let (third, last) = (RandomState::new(rt)?, RandomState::new(rt)?);
-    let so = [
-        tells(
-            rt,
-            "the first reason refuses a map",
-            building::reasons(alloc, one, other),
-        )?,
-        tells(
-            rt,
-            "no set has a number used up",
-            sets::made(alloc, third, last),
-        )?,
-        tells(
-            rt,
-            "what a session has stored stays",
-            opening::stays(rt, alloc),
-        )?,
-        tells(
-            rt,
-            "a clone is the same until one changes",
-            copying::copies(rt, alloc),
-        )?,
-        tells(
-            rt,
-            "lookups refuse what is of another map",
-            foreign::looks(rt, alloc),
-        )?,
-        tells(
-            rt,
-            "changes refuse what is of another map",
-            foreign::stores(rt, alloc),
-        )?,
+    let is_so = building::reasons(alloc, RandomState::new(rt)?, RandomState::new(rt)?);
+    let mut all = tells(rt, "the first reason refuses a map", is_so)?;
+    let is_so = sets::made(alloc, RandomState::new(rt)?, RandomState::new(rt)?);
+    all = tells(rt, "a set has the last number", is_so)? && all;
+    let is_so = building::stays(rt, alloc);
+    all = tells(rt, "what sessions have stored stays", is_so)? && all;
+    let is_so = building::copies(rt, alloc);
+    all = tells(rt, "a clone is the same until one changes", is_so)? && all;
+    let is_so = foreign::looks(rt, alloc);
+    all = tells(rt, "lookups refuse what is of another map", is_so)? && all;
+    let is_so = foreign::stores(rt, alloc);
+    all = tells(rt, "changes refuse what is of another map", is_so)? && all;
+    Ok(
         tells(
             rt,
             "a set refuses what is of another one",
             sets::foreign(rt, alloc),
-        )?,
-    ];
-    Ok(so == [true; 7])
+        )? && all,
+    )
 }
 
 fn main(rt: HostRuntime) -> io::Result<()> {

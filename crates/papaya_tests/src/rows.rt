@@ -1,7 +1,7 @@
 //! Rows of calls and what they answer, on a new map of each mode, or a new set: `NAME: CALL = ANSWER; CALL = ANSWER`, and a set's name begins so. A call is a word and up to
 //! two numbers. Where it is refused the name of the fault is its answer, and where it asked a closure for a value `asked` follows.
 use crate::sets::{self, Own as Set};
-use crate::{MODES, Own, Told, made, more};
+use crate::{MODES, Own, Told, made, more, whole};
 use papaya::{Attempt, ComputedPair, Operation, ResizeMode};
 use std::alloc::Global;
 use std::io;
@@ -144,18 +144,22 @@ fn of_all<R: Wait>(rt: &R, alloc: Global, map: &mut Own<'_>, call: &Call<'_>) ->
             alloc,
             map.extend(rt, [(key, 1), (value, 2), (key, 3)])? == (),
         ),
-        "fill" => filled(rt, alloc, map, key),
         "walk" => walked(rt, alloc, map, call),
-        _ => Ok(format!(in alloc; "no call")?),
+        _ => of_many(rt, alloc, map, call),
     }
 }
 
-/// How many pairs are counted once so many keys were stored, each with itself.
-fn filled<R: Wait>(rt: &R, alloc: Global, map: &mut Own<'_>, many: u64) -> Told<String> {
-    for key in 0..many {
-        let _ = map.insert(rt, key, key)?;
+/// What a map answers to one call after another, on so many keys.
+fn of_many<R: Wait>(rt: &R, alloc: Global, map: &mut Own<'_>, call: &Call<'_>) -> Told<String> {
+    let many = call.key;
+    match call.name {
+        "fill" => one(alloc, Some(&whole::fills(rt, map, many)?)),
+        "find" => one(alloc, Some(&whole::finds(rt, map, many, call.value))),
+        "lower" => one(alloc, Some(&whole::lowers(rt, map, many, false)?)),
+        "take" => one(alloc, Some(&whole::lowers(rt, map, many, true)?)),
+        "show" => one(alloc, Some(&whole::shown(rt, map, many)?.0)),
+        _ => Ok(format!(in alloc; "no call")?),
     }
-    one(alloc, Some(&map.len()))
 }
 
 /// The first two pairs of three keys that a walk lends.

@@ -69,33 +69,20 @@ pub(crate) fn change<R: Threads + Wait + Sync>(rt: &R, made: Told<Set>) -> Told<
     Ok(new == u64::MAX && taken == u64::MAX && set.session()?.len() == 0)
 }
 
-/// Whether this key comes to be there.
-fn comes<R: Wait + Clock>(
-    rt: &R,
-    guard: &Own<'_>,
-    pass: &mut Pass<u64, (), Hashing>,
-    key: u64,
-) -> Told<bool>
-    requires own { pass.old.base.seat.base ≡ guard.now.session.base.caller.blocks.now.words.id.views_name }
-{
+/// Puts one of two keys by a session of its own, and waits until a walk shows both, and a pass under the guard finds the other one.
+fn leaves<R: Wait + Clock>(rt: &R, set: &Lent<'_>, guard: &Own<'_>, key: u64) -> Told<bool> {
+    let mut session = set.session()?;
+    let _ = session.insert(rt, key)?;
+    let mut pass = guard.pass();
     for turn in 0..LOOKS {
-        if guard.contains_by(rt, &key, pass)? {
+        let mut sum = 0u64;
+        session.each(rt, |key| sum = u64::wrapping_add(sum, *key))?;
+        if guard.contains_by(rt, &(key ^ 1), &mut pass)? && sum == 13 {
             return Ok(true);
         }
         thread::sleep(rt, Duration::from_millis(1));
     }
     Ok(false)
-}
-
-/// Puts one of two keys by a session of its own, waits under the guard until the other one is there, and then for a walk that shows both.
-fn leaves<R: Wait + Clock>(rt: &R, set: &Lent<'_>, guard: &Own<'_>, key: u64) -> Told<bool> {
-    let mut session = set.session()?;
-    let _ = session.insert(rt, key)?;
-    let mut pass = guard.pass();
-    let came = comes(rt, guard, &mut pass, key ^ 1)?;
-    let mut sum = 0u64;
-    session.each(rt, |key| sum = u64::wrapping_add(sum, *key))?;
-    Ok(came && sum == 13)
 }
 
 /// Tells whether two threads do so under one guard.

@@ -1,4 +1,4 @@
-//! Calls on a whole map: what one session counts and is shown of many keys; keys that are found while another thread makes room; two threads that go over all pairs until
+//! Calls on a whole map: what one session counts and is shown of so many keys; keys that are found while another thread makes room; two threads that go over all pairs until
 //! they meet; and one that counts and clears while another one stores.
 use crate::{LOOKS, Map, Own, Told};
 use papaya::Onlooker;
@@ -6,11 +6,8 @@ use std::sync::Wait;
 use std::thread::{self, Threads};
 use std::time::{Clock, Duration};
 
-/// How many keys there are at first.
+/// How many keys there are.
 const FEW: u64 = 1_024;
-
-/// How many there are in the end.
-const MANY: u64 = 10_000;
 
 /// How often all keys are looked up while room is made, or are cleared.
 const ROUNDS: u64 = 32;
@@ -19,7 +16,7 @@ const ROUNDS: u64 = 32;
 const STAY: u64 = 100;
 
 /// Stores so many keys, each with its successor, and answers how many pairs are counted then.
-fn fills<R: Wait>(rt: &R, session: &mut Own<'_>, many: u64) -> Told<u64> {
+pub(crate) fn fills<R: Wait>(rt: &R, session: &mut Own<'_>, many: u64) -> Told<u64> {
     for key in 0..many {
         let _ = session.insert(rt, key, u64::wrapping_add(key, 1))?;
     }
@@ -27,7 +24,7 @@ fn fills<R: Wait>(rt: &R, session: &mut Own<'_>, many: u64) -> Told<u64> {
 }
 
 /// How many of so many keys it finds, each with so much more.
-fn finds<R: Wait>(rt: &R, session: &mut Own<'_>, many: u64, more: u64) -> u64 {
+pub(crate) fn finds<R: Wait>(rt: &R, session: &mut Own<'_>, many: u64, more: u64) -> u64 {
     let mut found = 0u64;
     for key in 0..many {
         let there = session.get(rt, &key).copied() == Some(u64::wrapping_add(key, more));
@@ -37,7 +34,12 @@ fn finds<R: Wait>(rt: &R, session: &mut Own<'_>, many: u64, more: u64) -> u64 {
 }
 
 /// Takes one from the value of each of so many keys, and removes them if that is wished.
-fn lowers<R: Wait>(rt: &R, session: &mut Own<'_>, many: u64, removes: bool) -> Told<u64> {
+pub(crate) fn lowers<R: Wait>(
+    rt: &R,
+    session: &mut Own<'_>,
+    many: u64,
+    removes: bool,
+) -> Told<u64> {
     for key in 0..many {
         if removes {
             let _ = session.remove(rt, &key)?;
@@ -49,7 +51,7 @@ fn lowers<R: Wait>(rt: &R, session: &mut Own<'_>, many: u64, removes: bool) -> T
 }
 
 /// How many of so many keys a walk shows, each with its successor, and how many other pairs.
-fn shown<R: Wait>(rt: &R, session: &mut Own<'_>, many: u64) -> Told<(u64, u64)> {
+pub(crate) fn shown<R: Wait>(rt: &R, session: &mut Own<'_>, many: u64) -> Told<(u64, u64)> {
     let (mut own, mut others) = (0u64, 0u64);
     session.each(rt, |key, value| {
         if *key < many && u64::wrapping_add(*key, 1) == *value {
@@ -59,23 +61,6 @@ fn shown<R: Wait>(rt: &R, session: &mut Own<'_>, many: u64) -> Told<(u64, u64)> 
         }
     })?;
     Ok((own, others))
-}
-
-/// Tells whether all is right of many keys, which are stored, lowered, removed, and stored anew.
-pub(crate) fn has_many<R: Wait>(rt: &R, made: Told<Map>) -> Told<bool> {
-    let made = made?;
-    let mut map = made.session()?;
-    let so = [
-        fills(rt, &mut map, FEW)? == FEW,
-        finds(rt, &mut map, FEW, 1) == FEW,
-        lowers(rt, &mut map, FEW, false)? == FEW,
-        finds(rt, &mut map, FEW, 0) == FEW,
-        lowers(rt, &mut map, FEW, true)? == 0,
-        fills(rt, &mut map, MANY)? == MANY,
-        finds(rt, &mut map, MANY, 1) == MANY,
-        shown(rt, &mut map, MANY)? == (MANY, 0),
-    ];
-    Ok(so == [true; 8])
 }
 
 /// Makes room again and again, twice as much each time.
