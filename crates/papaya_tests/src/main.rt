@@ -49,15 +49,10 @@ fn more(count: &u64) -> u64 {
 /// Prints whether this is so, or why that can't be said.
 fn tells<R: Print>(rt: &R, what: &str, is_so: Told<bool>) -> io::Result<bool> {
     match is_so {
-        Ok(is_so) => {
-            println!(rt; "{what}: {is_so}")?;
-            Ok(is_so)
-        }
-        Err(fault) => {
-            println!(rt; "{what}: {fault}")?;
-            Ok(false)
-        }
+        Ok(is_so) => println!(rt; "{what}: {is_so}")?,
+        Err(fault) => println!(rt; "{what}: {fault}")?,
     }
+    Ok(matches!(is_so, Ok(true)))
 }
 
 /// The bits of the keys so far, and one for the next key.
@@ -84,10 +79,8 @@ fn of_mode<R: Threads + Wait + Clock + Sync + Print>(
     all = tells(rt, "two walks show what stays, and meet", is_so)? && all;
     let is_so = whole::clears(rt, made(alloc, mode));
     all = tells(rt, "pairs are counted and cleared while others come", is_so)? && all;
-    let is_so = passing::meet(rt, made(alloc, mode));
-    all = tells(rt, "two passes under one guard meet", is_so)? && all;
     let is_so = passing::follow(rt, made(alloc, mode));
-    all = tells(rt, "no pass is led back while values are replaced", is_so)? && all;
+    all = tells(rt, "two passes meet while values are replaced", is_so)? && all;
     let is_so = passing::settle(rt, made(alloc, mode));
     all = tells(rt, "two are lent the value on which they settle", is_so)? && all;
     let is_so = sets::change(rt, sets::built(alloc, mode));
@@ -129,7 +122,7 @@ fn main(rt: HostRuntime) -> io::Result<()> {
         is_so = of_mode(&rt, alloc, mode)? && is_so;
     }
     for line in rt.lines(alloc) {
-        is_so = rows::row(&rt, alloc, line?.as_str())? && is_so;
+        is_so = rows::holds(&rt, alloc, line?.as_str())? && is_so;
     }
     if is_so {
         return Ok(());

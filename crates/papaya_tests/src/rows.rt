@@ -75,7 +75,7 @@ fn inserted<R: Wait>(rt: &R, alloc: Global, map: &mut Own<'_>, call: &Call<'_>) 
     }
 }
 
-/// The pair that is there where one is to be stored if the key is missing, and what comes back.
+/// The pair that is there where one is to be stored if the key is missing, and which has come back.
 fn tried<R: Wait>(rt: &R, alloc: Global, map: &mut Own<'_>, call: &Call<'_>) -> Told<String> {
     let (there, tried) = map.try_insert(rt, call.key, call.value)?;
     let (own, there) = map.pair(there);
@@ -199,19 +199,15 @@ fn of_elements<R: Wait>(rt: &R, alloc: Global, set: &mut Set<'_>, call: &Call<'_
 }
 
 /// The number that a word says.
-fn number(word: &str) -> u64 {
-    word.parse().unwrap_or(0)
+fn number(word: Option<&str>) -> u64 {
+    word.unwrap_or("").parse().unwrap_or(0)
 }
 
 /// What a call of a row answers.
 fn says<R: Wait>(rt: &R, alloc: Global, on: &mut On<'_>, call: &str) -> Told<String> {
-    let words: Vec<&str> = call.split_whitespace().collect(alloc)?;
-    let (name, key, value) = match *words {
-        [name] => (name, 0, 0),
-        [name, key] => (name, number(key), 0),
-        [name, key, value] => (name, number(key), number(value)),
-        _ => ("", 0, 0),
-    };
+    let mut words = call.split_whitespace();
+    let name = words.next().unwrap_or("");
+    let (key, value) = (number(words.next()), number(words.next()));
     let call = Call { name, key, value };
     match on {
         On::Map(map) => of_key(rt, alloc, map, &call),
@@ -240,15 +236,10 @@ fn wrong<R: Wait>(rt: &R, alloc: Global, on: &mut On<'_>, calls: &str) -> Told<O
     Ok(None)
 }
 
-/// Makes these calls on a new map or set of this mode.
-fn of_new<R: Wait>(
-    rt: &R,
-    alloc: Global,
-    mode: ResizeMode,
-    is_set: bool,
-    calls: &str,
-) -> Told<Option<String>> {
-    if is_set {
+/// Makes the calls of a row on a new map or set of this mode.
+fn of_new<R: Wait>(rt: &R, alloc: Global, mode: ResizeMode, row: &str) -> Told<Option<String>> {
+    let (name, calls) = row.split_once(':').unwrap_or((row, ""));
+    if name.starts_with("set") {
         let set = sets::built(alloc, mode)?;
         return wrong(rt, alloc, &mut On::Set(set.session()?), calls);
     }
@@ -257,10 +248,10 @@ fn of_new<R: Wait>(
 }
 
 /// Prints a row's name and whether it is so in each mode, or the first call that answers otherwise.
-pub(crate) fn row<R: Wait + Print>(rt: &R, alloc: Global, line: &str) -> io::Result<bool> {
-    let (name, calls) = line.split_once(':').unwrap_or((line, ""));
+pub(crate) fn holds<R: Wait + Print>(rt: &R, alloc: Global, row: &str) -> io::Result<bool> {
+    let (name, _) = row.split_once(':').unwrap_or((row, ""));
     for mode in MODES {
-        if let Some(wrong) = of_new(rt, alloc, mode, name.starts_with("set"), calls)? {
+        if let Some(wrong) = of_new(rt, alloc, mode, row)? {
             println!(rt; "{name}: {mode:?}: {wrong}")?;
             return Ok(false);
         }
