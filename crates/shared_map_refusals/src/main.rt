@@ -149,10 +149,10 @@ fn makes<R: Wait>(
     value: u64,
 ) -> bool {
     let stored = match session.try_insert_with(rt, key, || value) {
-        Ok(stored) => stored,
+        Ok((_, stored)) => stored,
         Err(fault) => {
             let none = matches!(fault, Fault::Memory) && !session.contains_key(rt, &key);
-            none && matches!(session.try_insert_with(rt, key, || value), Ok(true))
+            none && matches!(session.try_insert_with(rt, key, || value), Ok((_, true)))
         }
     };
     stored && session.get(rt, &key).copied() == Some(value)
@@ -166,20 +166,20 @@ fn tests<R: Wait>(
     value: u64,
 ) -> bool {
     let removed = match session.remove_if(rt, &key, |_, there| *there == value) {
-        Ok(removed) => removed,
+        Ok(taken) => taken.is_some(),
         Err(fault) => {
             let still = matches!(fault, Fault::Memory) && session.contains_key(rt, &key);
             still
                 && matches!(
                     session.remove_if(rt, &key, |_, there| *there == value),
-                    Ok(true)
+                    Ok(Some(_))
                 )
         }
     };
     removed && !session.contains_key(rt, &key)
 }
 
-/// Lists the keys, and tells whether as many were listed as there are.
+/// Lists the keys and the values, and tells whether as many were listed as there are.
 fn lists<R: Wait>(
     rt: &R,
     alloc: Global,
@@ -189,7 +189,11 @@ fn lists<R: Wait>(
         Err(Fault::Memory) => session.keys(rt, alloc)?,
         answer => answer?,
     };
-    Ok(u64::try_from(keys.len()) == Ok(session.len()))
+    let values = match session.values(rt, alloc) {
+        Err(Fault::Memory) => session.values(rt, alloc)?,
+        answer => answer?,
+    };
+    Ok(u64::try_from(keys.len()) == Ok(session.len()) && values.len() == keys.len())
 }
 
 /// Makes the values of all keys in a map that was built, and removes each; tells whether each time all was as it should be.
@@ -257,7 +261,7 @@ fn many(done: [bool; 4]) -> u64 {
 fn counts<R: Wait>(rt: &R, session: &mut Session<'_, u64, u64, Hashing>, key: u64) -> bool {
     let put = session.update_or_insert(rt, &key, more, &1).is_ok();
     let with = session.update_or_insert_with(rt, &key, more, || 1).is_ok();
-    let updated = matches!(session.update(rt, &key, more), Ok(true));
+    let updated = matches!(session.update(rt, &key, more), Ok(Some(_)));
     let computed = session.compute(rt, &key, raises).is_ok();
     let done = many([put, with, updated, computed]);
     done >= 3 && session.get(rt, &key).copied() == Some(done)

@@ -49,8 +49,8 @@ fn removes<R: Wait>(
     let mut refused = false;
     for key in 0..KEYS {
         match session.remove_if(rt, &key, |_, there| *there == value) {
-            Ok(true) => removed = u64::wrapping_add(removed, 1),
-            Ok(false) => {}
+            Ok(Some(_)) => removed = u64::wrapping_add(removed, 1),
+            Ok(None) => {}
             Err(_) => refused = true,
         }
     }
