@@ -3,14 +3,11 @@ ghost use Rattle.std.specs.Prelude.{◌≡◌};
 ghost use Rattle.threads_calls.specs.Given.SeizeViewsDeclared.view.Has.TheVariants.{Nothing};
 ghost use Rattle.threads_calls.specs.Given.SeizeViewsDeclared.view.SlotView.TheVariants.{Inside};
 
-use crate::resting::{CHOSEN, Hashing, MODE, Resting};
+use crate::resting::{CHOSEN, Hashing, KEYS, MODE, Resting};
 use std::sync::Wait;
 use std::test::Fail;
 use std::thread;
 use threads_calls::{SessionBase, Sleepers, memory_for};
-
-/// How many keys there are.
-const KEYS: u64 = 400;
 
 /// How many of the keys it has stored with this value because they were missing, if none was refused.
 fn stores<R: Wait>(

@@ -1,7 +1,19 @@
 //! Makes each call on a memory that threads share that asks for memory. Where it is refused, nothing has changed, and it is made again, and done then. Then it
 //! opens and ends a thousand sections, in each of which a value is retired: none of that asks for memory. The gate has this program run once for each request
-//! for memory, with that one refused: each time it prints the same; and there are fewer requests than sections.
+//! for memory, with that one refused: each time it prints the same; and there are fewer requests than sections. And tests of a memory that is emptied of all
+//! that waits, and of guards and slots in number.
 #![tactic(auto)]
+
+#[cfg(test)]
+mod desks;
+#[cfg(test)]
+mod forgotten;
+#[cfg(test)]
+mod ground;
+#[cfg(test)]
+mod holding;
+#[cfg(test)]
+mod many;
 
 ghost use Rattle.std.specs.Prelude.{◌≡◌, None, Some, IfOk};
 

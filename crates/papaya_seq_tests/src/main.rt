@@ -1,10 +1,23 @@
 //! Makes each call on maps and sets for one owner that asks for memory. Where it is refused, nothing has changed, and it is made again, and done then. The
-//! gate has this program run once for each request for memory, with that one refused: each time it prints the same.
+//! gate has this program run once for each request for memory, with that one refused: each time it prints the same. And tests of the map, the set and their
+//! JSON: examples that were worked by hand, and what no clause says.
 #![tactic(auto)]
 
+#[cfg(test)]
+mod answers;
+#[cfg(test)]
+mod conveniences;
+#[cfg(test)]
+mod forms;
+#[cfg(test)]
+mod json;
 mod maps;
+#[cfg(test)]
+mod one_hash;
 mod rows;
 mod sets;
+#[cfg(test)]
+mod shown;
 mod texts;
 
 use papaya_seq::{Fault, JsonFault};

@@ -1,20 +1,23 @@
-//! The kinds of turns, and how many of them are taken on a thread.
+//! The kinds of turns with guards of sections, and how long they take on threads.
 ghost use Rattle.std.specs.Prelude.{◌≡◌, None};
 
 use seize::Fault;
 use seize::rows::Defers;
-use seize_blocks::Blocks;
+use seize_blocks::{Blocks, Home};
 use seize_shared::{Fixed, Guard, LocalGuard, OfRows, Registration, RootGuard};
 use std::alloc::Global;
+use std::thread::Threads;
+use std::time::{Clock, Duration, Instant};
+use std::{io, thread};
 
 /// How many roots there are.
-pub(crate) const ROOTS: u64 = 4;
+const ROOTS: u64 = 4;
 
 /// How many slots there are.
 const SLOTS: u64 = 65_536;
 
 /// What is chosen for the memory.
-pub(crate) const CHOSEN: Fixed = Fixed {
+const CHOSEN: Fixed = Fixed {
     batch_size: 32,
     roots: ROOTS,
     chains: 0,
@@ -22,7 +25,7 @@ pub(crate) const CHOSEN: Fixed = Fixed {
 
 /// A value at a root. It keeps no list of further values.
 #[derive(Drop)]
-pub(crate) struct Number(u64);
+struct Number(u64);
 
 impl Defers for Number {
     ghost defers = { λ _. None };
@@ -114,13 +117,7 @@ fn slots(alloc: Global, blocks: &Blocks<Number, OfRows>, turns: u64) -> u64
 
 /// Takes so many turns with a slot of its own, and answers how many came to what they should: a section is opened and ended; or, all within one section, a root
 /// is looked at, where a value is; or a value is put at a root, the same one for all threads, or one of the thread's own. Or each turn takes a slot more.
-pub(crate) fn takes(
-    alloc: Global,
-    blocks: &Blocks<Number, OfRows>,
-    kind: &str,
-    thread: u64,
-    turns: u64,
-) -> u64
+fn takes(alloc: Global, blocks: &Blocks<Number, OfRows>, kind: &str, thread: u64, turns: u64) -> u64
     requires { blocks.now.words.fixed ≡ record { batch_size = 32; roots = 4; chains = 0 } }
 {
     if kind == "slots" {
@@ -142,4 +139,30 @@ pub(crate) fn takes(
         "put_apart" => puts(&mut guard, thread % ROOTS, turns),
         _ => 0,
     }
+}
+
+/// How long so many turns take on each of so many threads, over one memory, and how many came to what they should.
+pub(crate) fn timed<R: Clock + Threads + Sync>(
+    rt: &R,
+    alloc: Global,
+    kind: &str,
+    threads: usize,
+    turns: u64,
+    numbers: u64,
+) -> io::Result<(Duration, u64)> {
+    let home = Home::<Number, OfRows>::open(alloc, ROOTS, numbers.min(1_000_000_000), &CHOSEN)?;
+    let blocks = &home.blocks;
+    let start = Instant::now(rt)?;
+    let counts = thread::map_indices(
+        rt,
+        alloc,
+        threads,
+        &|thread: usize| { takes(alloc, blocks, kind, thread as u64, turns) },
+    )?;
+    let took = start.elapsed(rt)?;
+    let mut sum = 0;
+    for count in counts {
+        sum = u64::wrapping_add(sum, count);
+    }
+    Ok((took, sum))
 }

@@ -1,6 +1,9 @@
-//! The kinds of calls, and their turns.
+//! The kinds of calls on maps, their turns, and how long these take.
 
-use crate::maps::Numbers;
+use crate::maps::{Numbers, Owned, Std};
+use std::alloc::Global;
+use std::io;
+use std::time::{Clock, Duration, Instant};
 
 /// Keys are scattered over all numbers of 64 bits.
 fn key(index: u64) -> u64 {
@@ -8,7 +11,7 @@ fn key(index: u64) -> u64 {
 }
 
 /// Stores the index of each of so many keys.
-pub(crate) fn fill<M: Numbers>(map: &mut M, keys: u64) {
+fn fill<M: Numbers>(map: &mut M, keys: u64) {
     for index in 0..keys {
         map.store(key(index), index);
     }
@@ -93,7 +96,7 @@ fn walk<M: Numbers>(map: &M, keys: u64, turns: u64) -> u64 {
 
 /// Takes so many turns on a map that was filled, and answers the sum of what was found, or of what there is then: a key is looked for that is there, or that is
 /// not; its value is replaced; it is removed and stored again; the next one is stored and the oldest removed; or a pair of a walk over all is read.
-pub(crate) fn take<M: Numbers>(map: &mut M, kind: &str, keys: u64, turns: u64) -> u64 {
+fn take<M: Numbers>(map: &mut M, kind: &str, keys: u64, turns: u64) -> u64 {
     match kind {
         "hit" => look(map, 0, keys, turns),
         "miss" => look(map, keys, keys, turns),
@@ -103,4 +106,40 @@ pub(crate) fn take<M: Numbers>(map: &mut M, kind: &str, keys: u64, turns: u64) -
         "iterate" => walk(map, keys, turns),
         _ => 0,
     }
+}
+
+/// How long the turns take on a map with so many keys, and the sum of what they find. The turns of `insert` are its keys.
+fn timed<M: Numbers, C: Clock>(
+    clock: &C,
+    map: &mut M,
+    kind: &str,
+    keys: u64,
+    turns: u64,
+) -> io::Result<(Duration, u64)> {
+    let start = Instant::now(clock)?;
+    fill(map, keys);
+    let filling = start.elapsed(clock)?;
+    if kind == "insert" {
+        return Ok((filling, map.total()));
+    }
+    let start = Instant::now(clock)?;
+    let sum = take(map, kind, keys, turns);
+    Ok((start.elapsed(clock)?, sum))
+}
+
+/// So it does on the map of this name, `owned` or std's.
+pub(crate) fn timed_on<C: Clock>(
+    clock: &C,
+    alloc: Global,
+    map: &str,
+    kind: &str,
+    keys: u64,
+    turns: u64,
+) -> io::Result<(Duration, u64)> {
+    if map == "owned" {
+        let mut map = Owned::new(alloc)?;
+        return timed(clock, &mut map, kind, keys, turns);
+    }
+    let mut map = Std::new(alloc);
+    timed(clock, &mut map, kind, keys, turns)
 }
