@@ -44,7 +44,7 @@ fn removes<R: Wait>(rt: &R, mut session: Own<'_>) -> Told<u64> {
 fn adds<R: Wait>(rt: &R, mut session: Own<'_>) -> Told<u64> {
     let mut there = 0u64;
     for key in 0..KEYS {
-        there = with(there, session.update(rt, &key, more)?);
+        there = with(there, session.update(rt, &key, more)?.is_some());
     }
     Ok(there)
 }

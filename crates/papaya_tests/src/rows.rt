@@ -58,20 +58,18 @@ fn of_key<R: Wait>(rt: &R, alloc: Global, map: &mut Own<'_>, call: &Call<'_>) ->
         "get" => one(alloc, map.get(rt, &key)),
         "get_key_value" => pair(alloc, map.pin().get_key_value(rt, &key)),
         "contains_key" => so(alloc, map.contains_key(rt, &key)),
-        "insert" => inserted(rt, alloc, map, call),
+        "insert" => match map.insert(rt, key, value)? {
+            Some(old) => one(alloc, Some(map.value(old))),
+            None => one(alloc, None),
+        },
         "try_insert" => tried(rt, alloc, map, call),
         "remove" => one(alloc, map.remove(rt, &key)?),
         "remove_entry" => pair(alloc, map.remove_entry(rt, &key)?),
-        "remove_if" => so(alloc, map.remove_if(rt, &key, |_, there| *there == value)?),
+        "remove_if" => match map.remove_if(rt, &key, |_, there| *there == value)? {
+            Some(old) => one(alloc, Some(map.value(old))),
+            None => one(alloc, None),
+        },
         _ => of_making(rt, alloc, map, call),
-    }
-}
-
-/// The value in whose place one was stored.
-fn inserted<R: Wait>(rt: &R, alloc: Global, map: &mut Own<'_>, call: &Call<'_>) -> Told<String> {
-    match map.insert(rt, call.key, call.value)? {
-        Some(old) => one(alloc, Some(map.value(old))),
-        None => one(alloc, None),
     }
 }
 
@@ -95,12 +93,12 @@ fn turns(pair: Option<(&u64, &u64)>) -> Operation<u64, u64> {
     }
 }
 
-/// What a key was computed to by what was there.
-fn computed(alloc: Global, computed: ComputedPair<u64>) -> Told<String> {
-    match computed {
-        ComputedPair::Inserted => Ok(format!(in alloc; "inserted")?),
-        ComputedPair::Updated => Ok(format!(in alloc; "updated")?),
-        ComputedPair::Removed => Ok(format!(in alloc; "removed")?),
+/// What a key was computed to by what was there, and the pairs that this names.
+fn computed<R: Wait>(rt: &R, alloc: Global, map: &mut Own<'_>, key: u64) -> Told<String> {
+    match map.compute(rt, &key, turns)? {
+        ComputedPair::Inserted(new) => Ok(format!(in alloc; "inserted {}", map.value(new))?),
+        ComputedPair::Updated { old, new } => pair(alloc, Some((map.value(old), map.value(new)))),
+        ComputedPair::Removed(old) => Ok(format!(in alloc; "removed {}", map.value(old))?),
         ComputedPair::Aborted(count) => Ok(format!(in alloc; "aborted {count}")?),
     }
 }
@@ -114,14 +112,29 @@ fn of_making<R: Wait>(rt: &R, alloc: Global, map: &mut Own<'_>, call: &Call<'_>)
         value
     };
     let said = match call.name {
-        "try_insert_with" => so(alloc, map.try_insert_with(rt, key, new)?)?,
+        "try_insert_with" => {
+            let (there, _) = map.try_insert_with(rt, key, new)?;
+            one(alloc, Some(map.value(there)))?
+        }
         "get_or_insert" => one(alloc, Some(map.get_or_insert(rt, key, value)?))?,
         "get_or_insert_with" => one(alloc, Some(map.get_or_insert_with(rt, key, new)?))?,
-        "update" => so(alloc, map.update(rt, &key, more)?)?,
-        "update_or_insert" => so(alloc, map.update_or_insert(rt, &key, more, &value)?)?,
-        "update_or_insert_with" => so(alloc, map.update_or_insert_with(rt, &key, more, new)?)?,
-        "compute" => computed(alloc, map.compute(rt, &key, turns)?)?,
-        "remove_nothing" => computed(alloc, map.compute(rt, &key, |_| Operation::Remove)?)?,
+        "update" => match map.update(rt, &key, more)? {
+            Some(new) => one(alloc, Some(map.value(new)))?,
+            None => one(alloc, None)?,
+        },
+        "update_or_insert" => {
+            let there = map.update_or_insert(rt, &key, more, &value)?;
+            one(alloc, Some(map.value(there)))?
+        }
+        "update_or_insert_with" => {
+            let there = map.update_or_insert_with(rt, &key, more, new)?;
+            one(alloc, Some(map.value(there)))?
+        }
+        "compute" => computed(rt, alloc, map, key)?,
+        "compute_none" => {
+            let removed = map.compute(rt, &key, |_| Operation::Remove::<u64, ()>)?;
+            so(alloc, matches!(removed, ComputedPair::Removed(_)))?
+        }
         _ => of_all(rt, alloc, map, call)?,
     };
     if asked.load(SeqCst) == 0 {
@@ -136,7 +149,9 @@ fn of_all<R: Wait>(rt: &R, alloc: Global, map: &mut Own<'_>, call: &Call<'_>) ->
     match call.name {
         "len" => one(alloc, Some(&map.len())),
         "is_empty" => so(alloc, map.is_empty()),
+        "number" => so(alloc, map.pin().session().number() == map.number()),
         "keys" => list(alloc, map.keys(rt, alloc)?),
+        "values" => list(alloc, map.values(rt, alloc)?),
         "clear" => so(alloc, map.clear(rt)? == ()),
         "reserve" => so(alloc, map.reserve(rt, key)? == ()),
         "retain" => so(alloc, map.retain(rt, |_, there| *there < key)? == ()),
@@ -178,6 +193,7 @@ fn of_set<R: Wait>(rt: &R, alloc: Global, set: &mut Set<'_>, call: &Call<'_>) ->
         "contains" => so(alloc, set.contains(rt, &key)),
         "insert" => so(alloc, set.insert(rt, key)?),
         "remove" => so(alloc, set.remove(rt, &key)?),
+        "number" => so(alloc, set.pin().session().number() == set.number()),
         "len" => one(alloc, Some(&set.len())),
         "is_empty" => so(alloc, set.is_empty()),
         _ => of_elements(rt, alloc, set, call),
