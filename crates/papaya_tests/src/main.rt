@@ -33,7 +33,7 @@ type Told<T> = Result<T, Fault>;
 const MODES: [ResizeMode; 2] = [ResizeMode::Incremental(1), ResizeMode::Blocking];
 
 /// How often one thread looks for what another one leaves, a millisecond apart.
-const LOOKS: u64 = 20_000;
+const LOOKS: u64 = 5_000;
 
 /// A map of this mode.
 fn made(alloc: Global, mode: ResizeMode) -> Told<Map> {
