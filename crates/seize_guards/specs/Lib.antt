@@ -1,2 +1,3 @@
+pub mod Drawers
 pub mod Joining
 pub mod Taking

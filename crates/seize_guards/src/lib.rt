@@ -3,11 +3,12 @@
 #![tactic(auto)]
 
 mod desk;
+mod drawer;
 mod guard;
 mod joined;
 mod joining;
 mod walking;
 
-pub use desk::{Desk, DeskGuard, MOST_GUARDS, Place};
+pub use desk::{Desk, DeskGuard, MOST_GUARDS};
 pub use guard::{ChainGuard, Unstacked};
 pub use joined::Joined;

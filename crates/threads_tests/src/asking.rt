@@ -86,10 +86,7 @@ fn a_key_has_the_value_of_one_of_two_that_make_one(rt: HostRuntime) -> Result<()
     let hashing = Hashing::default();
     let home = memory_for::<u64, u64, Hashing>(rt.alloc(), 64, &CHOSEN)?;
     let sleepers = Sleepers::new();
-    let Ok(mut first) = SessionBase::open(&home.blocks, &sleepers, &hashing, &CHOSEN, MODE, 4)
-    else {
-        return Err(Fail::new("no map was made"));
-    };
+    let mut first = SessionBase::open(&home.blocks, &sleepers, &hashing, &CHOSEN, MODE, 4)?;
     let second = Resting::of(first.session());
     let third = Resting::of(first.session());
     let first = Resting::of(first);
@@ -107,10 +104,7 @@ fn a_pair_of_which_two_say_yes_is_removed_once(rt: HostRuntime) -> Result<(), Fa
     let hashing = Hashing::default();
     let home = memory_for::<u64, u64, Hashing>(rt.alloc(), 64, &CHOSEN)?;
     let sleepers = Sleepers::new();
-    let Ok(mut first) = SessionBase::open(&home.blocks, &sleepers, &hashing, &CHOSEN, MODE, 4)
-    else {
-        return Err(Fail::new("no map was made"));
-    };
+    let mut first = SessionBase::open(&home.blocks, &sleepers, &hashing, &CHOSEN, MODE, 4)?;
     let second = Resting::of(first.session());
     let third = Resting::of(first.session());
     let first = Resting::of(first);

@@ -129,10 +129,7 @@ fn of_two_that_try_to_store_a_key_one_does(rt: HostRuntime) -> Result<(), Fail> 
     let hashing = Hashing::default();
     let home = memory_for::<u64, u64, Hashing>(rt.alloc(), 64, &CHOSEN)?;
     let sleepers = Sleepers::new();
-    let Ok(mut first) = SessionBase::open(&home.blocks, &sleepers, &hashing, &CHOSEN, MODE, 4)
-    else {
-        return Err(Fail::new("no map was made"));
-    };
+    let mut first = SessionBase::open(&home.blocks, &sleepers, &hashing, &CHOSEN, MODE, 4)?;
     let second = Resting::of(first.session());
     let third = Resting::of(first.session());
     let first = Resting::of(first);
@@ -160,10 +157,7 @@ fn a_pair_that_two_threads_remove_is_removed_once(rt: HostRuntime) -> Result<(),
     let hashing = Hashing::default();
     let home = memory_for::<u64, u64, Hashing>(rt.alloc(), 64, &CHOSEN)?;
     let sleepers = Sleepers::new();
-    let Ok(mut first) = SessionBase::open(&home.blocks, &sleepers, &hashing, &CHOSEN, MODE, 4)
-    else {
-        return Err(Fail::new("no map was made"));
-    };
+    let mut first = SessionBase::open(&home.blocks, &sleepers, &hashing, &CHOSEN, MODE, 4)?;
     let second = Resting::of(first.session());
     let third = Resting::of(first.session());
     let first = Resting::of(first);

@@ -1,5 +1,5 @@
 use Rattle.seize_views.proofs.Views.Guarding.{watched_are_shown}
-use Rattle.seize_guards.proofs.desk.Watcher.value.Goals as goal
+use Rattle.seize_guards.proofs.desk.held.Watcher.value.Goals as goal
 
 pub value-requires-clause-shown : goal.value-requires-clause-shown
 value-requires-clause-shown g c =

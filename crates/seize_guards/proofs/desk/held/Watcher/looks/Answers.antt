@@ -1,5 +1,5 @@
 use Rattle.seize_views.proofs.Views.Guarding.{watchers_see}
-use Rattle.seize_guards.proofs.desk.Watcher.looks.Goals as goal
+use Rattle.seize_guards.proofs.desk.held.Watcher.looks.Goals as goal
 
 pub load-word-requires-clause-may : goal.load-word-requires-clause-may
 load-word-requires-clause-may g c =

@@ -2,9 +2,9 @@
 //! ends.
 ghost use Rattle.std.specs.Prelude.{◌<◌, ◌≡◌};
 
-use crate::{Counted, DropCounts, all_are, table};
 use seize::Fault;
 use seize_collector::{Collector, IdSource, OwnedGuard, Pass, Shared};
+use seize_shared_tests::{Counted, DropCounts, all_are, table};
 use std::alloc::Global;
 use std::test::Fail;
 use std::thread;
@@ -24,14 +24,16 @@ fn replaces(guard: &OwnedGuard<'_, Counted>, pass: &mut Pass<Counted>, value: Co
         return false;
     };
     match owned.swap(guard, 0, 0) {
-        Ok(Some(old)) => match old.retire_by(pass) {
-            Ok(()) => true,
-            Err((_, old)) => {
-                old.kept();
-                false
-            }
+        Ok(before) => match before.block() {
+            Some(old) => match old.retire_by(pass) {
+                Ok(()) => true,
+                Err((_, old)) => {
+                    old.kept();
+                    false
+                }
+            },
+            None => true,
         },
-        Ok(None) => true,
         Err((_, owned)) => {
             drop(owned.into_value());
             false
