@@ -1,78 +1,39 @@
-//! What a set holds, by one session and by two threads, in each mode; how it is built, and what refuses one, or a guard and a pass of another set.
+//! What two threads do to a set; how one is built; and what refuses one, or a guard and a pass of another set.
 ghost use Rattle.std.specs.Prelude.{◌≡◌, ◌≢◌};
 
+use crate::{Hashing, LOOKS, Told, with};
 use papaya::{
     Collector, Fault, HashSet, IdSource, Pass, RefusedKey, ResizeMode, SetSession, SharedSet,
 };
 use std::alloc::Global;
-use std::hash::{BuildHasherDefault, DefaultHasher, RandomState};
+use std::hash::RandomState;
 use std::sync::Wait;
-use std::test::Fail;
 use std::thread::{self, Threads};
+use std::time::{Clock, Duration};
 
-type Hashing = BuildHasherDefault<DefaultHasher>;
+pub(crate) type Set = HashSet<u64, Hashing>;
 
-type Set = HashSet<u64, Hashing>;
+pub(crate) type Own<'m> = SetSession<'m, u64, Hashing>;
 
-type Own<'m> = SetSession<'m, u64, Hashing>;
+type Lent<'m> = SharedSet<'m, u64, Hashing>;
 
-type Told<T> = Result<T, Fault>;
-
-/// Whether a source of one number gives that to a set, and none to another one.
-fn made(alloc: Global, one: RandomState, other: RandomState) -> [bool; 2] {
+/// Tells whether a source of one number gives that to a set, and none to another one.
+pub(crate) fn made(alloc: Global, one: RandomState, other: RandomState) -> Told<bool> {
     let mut ids = IdSource::starting_at(u64::MAX - 1);
     let last = HashSet::<u64>::with_capacity(alloc, &mut ids, 100, one);
     let none = HashSet::<u64>::new(alloc, &mut ids, other);
-    [last.is_ok(), matches!(none, Err(Fault::CollectorsUsedUp))]
+    Ok(last.is_ok() && matches!(none, Err(Fault::CollectorsUsedUp)))
 }
 
 /// A set of this mode, which was built with all that can be chosen.
-fn built(alloc: Global, hasher: RandomState, mode: ResizeMode) -> Told<Set> {
+pub(crate) fn built(alloc: Global, mode: ResizeMode) -> Told<Set> {
     let mut ids = IdSource::new();
     let collector = Collector::new(&mut ids, 1, 4)?.batch_size(1);
-    let builder = HashSet::builder(hasher)
+    let builder = HashSet::builder(Hashing::default())
         .hasher(Hashing::default())
         .capacity(10);
     let builder = builder.collector(collector).shards(2).resize_mode(mode);
     builder.build(alloc, &mut ids)
-}
-
-/// What a session says of a set that is empty, and of one key.
-fn one<R: Wait>(rt: &R, set: &mut Own<'_>) -> Told<[bool; 7]> {
-    Ok([
-        set.clear(rt).is_ok(),
-        !set.remove(rt, &42)?,
-        set.is_empty(),
-        set.insert(rt, 42)?,
-        !set.insert(rt, 42)?,
-        set.contains(rt, &42),
-        set.remove(rt, &42)?,
-    ])
-}
-
-/// The sum of the elements that a walk shows.
-fn sum<R: Wait>(rt: &R, set: &mut Own<'_>) -> Told<u64> {
-    let mut sum = 0u64;
-    set.each(rt, |key| sum = u64::wrapping_add(sum, *key))?;
-    Ok(sum)
-}
-
-/// What a session says of a set of three keys, of which it lets one go, and of as many as it has then.
-fn three<R: Wait>(rt: &R, alloc: Global, set: &mut Own<'_>) -> Told<[bool; 7]> {
-    set.extend(rt, [42, 16, 38, 16])?;
-    let there = set.pin().get(rt, &38).copied() == Some(38);
-    let mut walk = set.walk(vec![in alloc; 9, 38]?);
-    let walked = matches!(walk.next(rt), Some(38));
-    drop(walk);
-    Ok([
-        there && walked,
-        set.reserve(rt, 100).is_ok(),
-        sum(rt, set)? == 96,
-        set.elements(rt, alloc)?.len() == 3,
-        set.retain(rt, |key| *key != 16).is_ok(),
-        sum(rt, set)? == 80,
-        set.clear(rt).is_ok(),
-    ])
 }
 
 /// Puts 64 keys into the set, or takes them out: which of them were new, or were there, a bit for each.
@@ -84,7 +45,7 @@ fn changes<R: Wait>(rt: &R, mut set: Own<'_>, takes: bool) -> Told<u64> {
         } else {
             set.insert(rt, key)?
         };
-        bits = u64::wrapping_add(u64::wrapping_mul(bits, 2), u64::from(done));
+        bits = with(bits, done);
         set.refresh();
     }
     Ok(bits)
@@ -101,19 +62,46 @@ fn both<R: Threads + Wait + Sync>(rt: &R, set: &Set, takes: bool) -> Told<u64> {
     Ok(one? ^ other?)
 }
 
-/// All that, of one set.
-fn says<R: Threads + Wait + Sync>(rt: &R, alloc: Global, set: &Set) -> Told<[bool; 3]> {
+/// Tells whether just one of two threads that put the same keys has put each, and one of two that take them out has taken it.
+pub(crate) fn change<R: Threads + Wait + Sync>(rt: &R, made: Told<Set>) -> Told<bool> {
+    let set = made?;
+    let (new, taken) = (both(rt, &set, false)?, both(rt, &set, true)?);
+    Ok(new == u64::MAX && taken == u64::MAX && set.session()?.len() == 0)
+}
+
+/// Puts one of two keys by a session of its own, and waits until a walk shows both, and a pass under the guard finds the other one.
+fn leaves<R: Wait + Clock>(rt: &R, set: &Lent<'_>, guard: &Own<'_>, key: u64) -> Told<bool> {
     let mut session = set.session()?;
-    let (one, three) = (one(rt, &mut session)?, three(rt, alloc, &mut session)?);
-    let (new, taken) = (both(rt, set, false)?, both(rt, set, true)?);
-    let all = new == u64::MAX && taken == u64::MAX && session.len() == 0;
-    Ok([one == [true; 7], three == [true; 7], all])
+    let _ = session.insert(rt, key)?;
+    let mut pass = guard.pass();
+    for turn in 0..LOOKS {
+        let mut sum = 0u64;
+        session.each(rt, |key| sum = u64::wrapping_add(sum, *key))?;
+        if guard.contains_by(rt, &(key ^ 1), &mut pass)? && sum == 13 {
+            return Ok(true);
+        }
+        thread::sleep(rt, Duration::from_millis(1));
+    }
+    Ok(false)
+}
+
+/// Tells whether two threads do so under one guard.
+pub(crate) fn meet<R: Threads + Wait + Clock + Sync>(rt: &R, made: Told<Set>) -> Told<bool> {
+    let made = made?;
+    let set = made.shared();
+    let guard = set.session()?;
+    let (one, other) = thread::join(
+        rt,
+        || leaves(rt, &set, &guard, 6),
+        || leaves(rt, &set, &guard, 7),
+    );
+    Ok(one? && other?)
 }
 
 /// Whether calls on a set refuse a guard and a pass that are of another one.
 fn refuses<R: Wait>(
     rt: &R,
-    set: &SharedSet<'_, u64, Hashing>,
+    set: &Lent<'_>,
     guard: &Own<'_>,
     other: &mut Own<'_>,
     pass: &mut Pass<u64, (), Hashing>,
@@ -133,8 +121,8 @@ fn refuses<R: Wait>(
     ]
 }
 
-/// Whether they do, and go with their own.
-fn foreign<R: Wait>(rt: &R, alloc: Global) -> Told<([bool; 5], [bool; 4])> {
+/// Tells whether they do, and go with their own.
+pub(crate) fn foreign<R: Wait>(rt: &R, alloc: Global) -> Told<bool> {
     let mut ids = IdSource::new();
     let own = Set::with_hasher(alloc, &mut ids, Hashing::default())?;
     let other = Set::with_hasher(alloc, &mut ids, Hashing::default())?;
@@ -150,20 +138,5 @@ fn foreign<R: Wait>(rt: &R, alloc: Global) -> Told<([bool; 5], [bool; 4])> {
         matches!(set.get(rt, &1, &guard, &mut pass), Ok(Some(1))),
         matches!(set.remove(rt, &1, &mut guard), Ok(true)),
     ];
-    Ok((refused, gone))
-}
-
-#[test]
-fn a_set_has_what_it_was_left_and_refuses_what_is_of_another_one(
-    rt: HostRuntime,
-) -> Result<(), Fail> {
-    let (hasher, other) = (RandomState::new(&rt)?, RandomState::new(&rt)?);
-    assert_eq!(rt; made(rt.alloc(), hasher, other), [true; 2]);
-    assert_eq!(rt; foreign(&rt, rt.alloc())?, ([true; 5], [true; 4]));
-    for mode in [ResizeMode::Incremental(1), ResizeMode::Blocking] {
-        let set = built(rt.alloc(), RandomState::new(&rt)?, mode)?;
-        let said = says(&rt, rt.alloc(), &set)?;
-        assert_eq!(rt; said, [true; 3]);
-    }
-    Ok(())
+    Ok(refused == [true; 5] && gone == [true; 4])
 }
