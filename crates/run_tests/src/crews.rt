@@ -131,8 +131,16 @@ fn came_to_the_same(one: &Run<u64, u64>, other: &Run<u64, u64>) -> bool {
 fn has_the_same(one: &Run<u64, u64>, other: &Run<u64, u64>) -> bool {
     let mut is_so = one.given_back.len() == other.given_back.len()
         && one.kept.len() == other.kept.len();
-    let pairs = one.given_back.iter().chain(one.kept.iter());
-    let others = other.given_back.iter().chain(other.kept.iter());
+    let pairs = one
+        .given_back
+        .as_slice()
+        .iter()
+        .chain(one.kept.as_slice().iter());
+    let others = other
+        .given_back
+        .as_slice()
+        .iter()
+        .chain(other.kept.as_slice().iter());
     for (pair, again) in pairs.zip(others) {
         let same = pair.number == again.number
             && pair.key == again.key
@@ -191,9 +199,11 @@ where
     let Some(driver) = drivers.pop() else {
         unreachable!()
     };
-    let driver = apply_wrongly(rt, alloc, &crew, driver, wrong)?;
-    drivers.push(driver)?;
-    Ok(crew.finish(alloc, drivers)?.is_some())
+    let has_applied = match apply_wrongly(rt, alloc, &crew, driver, wrong) {
+        Ok(driver) => drivers.push(driver).is_ok(),
+        Err(_) => false,
+    };
+    Ok(crew.finish(alloc, drivers)?.is_some() && has_applied)
 }
 
 /// The same, by a ledger of its own.
