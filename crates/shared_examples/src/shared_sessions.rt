@@ -75,6 +75,6 @@ pub(crate) fn run<R: Threads + Wait + Clock + Sync + Print>(
     );
     let (met, _, _) = (met?, opened?, also?);
     expires(rt, &mut own, NOW)?;
-    println!(rt; "{} logins last", own.len(rt))?;
+    println!(rt; "{} logins last", own.len())?;
     println!(rt; "both doors were met: {met}")
 }
