@@ -75,8 +75,9 @@ pub(crate) fn run<R: Threads + Wait + Clock + Sync + Print>(
 ) -> io::Result<()> {
     let mut ids = IdSource::new();
     let first = Value::from_str(alloc, FIRST).map_err(|_| io::Error::other("this is no JSON"))?;
-    let map = HashMap::from_value(rt, alloc, &mut ids, Hashing::default(), &first)
-        .map_err(|_| io::Error::other("these are no routes"))?;
+    let map = HashMap::from_value(rt, alloc, &mut ids, Hashing::default(), &first).map_err(
+        |_| io::Error::other("these are no routes"),
+    )?;
     let (never_back, met) = serve(rt, &map.shared())?;
     println!(rt; "no request was led back: {never_back}")?;
     println!(rt; "each reader has met the last server: {met}")?;

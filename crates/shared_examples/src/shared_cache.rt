@@ -77,6 +77,12 @@ pub(crate) fn run<R: Threads + Wait + Clock + Sync + Print>(
     let right = a.0.wrapping_add(b.0).wrapping_add(c.0).wrapping_add(d.0);
     let hits = a.1.wrapping_add(b.1).wrapping_add(c.1).wrapping_add(d.1);
     println!(rt; "{right} squares were right")?;
-    println!(rt; "those that stay were worked out once: {}", hits >= 3 * KEPT)?;
-    println!(rt; "each thread has met what another one had left: {}", a.2 && b.2 && c.2 && d.2)
+    println!(rt;
+        "those that stay were worked out once: {}",
+        hits >= 3 * KEPT
+    )?;
+    println!(rt;
+        "each thread has met what another one had left: {}",
+        a.2 && b.2 && c.2 && d.2
+    )
 }

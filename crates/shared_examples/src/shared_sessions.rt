@@ -48,8 +48,12 @@ fn cleans<R: Wait + Clock>(rt: &R, logins: Logins<'_>) -> Result<bool, Fault> {
     let last = LOGINS.wrapping_mul(2);
     for look in 0..LOOKS {
         expires(rt, &mut logins, u64::min(look, NOW))?;
-        let one = logins.get(rt, &last.wrapping_sub(2)).is_some_and(|login| login.door == 0);
-        let other = logins.get(rt, &last.wrapping_sub(1)).is_some_and(|login| login.door == 1);
+        let one = logins
+            .get(rt, &last.wrapping_sub(2))
+            .is_some_and(|login| login.door == 0);
+        let other = logins
+            .get(rt, &last.wrapping_sub(1))
+            .is_some_and(|login| login.door == 1);
         if one && other {
             return Ok(true);
         }
