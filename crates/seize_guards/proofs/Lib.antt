@@ -1,2 +1,3 @@
+pub mod Behind
 pub mod Chains
 pub mod Samples
