@@ -16,6 +16,8 @@ mod ground;
 mod holding;
 #[cfg(test)]
 mod many;
+#[cfg(test)]
+mod retiring;
 
 ghost use Rattle.std.specs.Prelude.{◌≡◌, None, Some, IfOk};
 

@@ -5,12 +5,13 @@
 mod behind;
 mod deferring;
 mod desk;
+mod drawer;
 mod guard;
 mod joined;
 mod joining;
 mod walking;
 
 pub use behind::DeferringGuard;
-pub use desk::{Desk, DeskGuard, MOST_GUARDS, Place};
+pub use desk::{Desk, DeskGuard, MOST_GUARDS};
 pub use guard::{ChainGuard, Unstacked};
 pub use joined::Joined;

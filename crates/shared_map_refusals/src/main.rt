@@ -39,6 +39,15 @@ fn begun<'m>(map: &'m Map) -> Result<Session<'m, u64, u64, Hashing>, Fault> {
     }
 }
 
+/// The first section of a registration.
+fn entered<'m>(map: &'m Map) -> Result<Session<'m, u64, u64, Hashing>, Fault> {
+    let registration = match map.register() {
+        Err(Fault::Memory) => map.register()?,
+        answer => answer?,
+    };
+    Ok(registration.enter())
+}
+
 /// One session more.
 fn another<'m>(
     session: &Session<'m, u64, u64, Hashing>,
@@ -339,6 +348,42 @@ fn fills<R: Wait>(rt: &R, set: &HashSet<u64, Hashing>) -> Result<bool, Fault> {
     Ok(are_there)
 }
 
+/// A clone of a map.
+fn cloned<R: Wait>(rt: &R, alloc: Global, map: &Map) -> Result<Map, Fault> {
+    let mut ids = IdSource::new();
+    match map.clone(rt, alloc, &mut ids) {
+        Err(Fault::Memory) => map.clone(rt, alloc, &mut ids),
+        answer => answer,
+    }
+}
+
+/// Tells whether two maps are the same.
+fn are_same<R: Wait>(
+    rt: &R,
+    one: &mut Session<'_, u64, u64, Hashing>,
+    other: &mut Session<'_, u64, u64, Hashing>,
+) -> Result<bool, Fault> {
+    match one.same(rt, other) {
+        Err(Fault::Memory) => one.same(rt, other),
+        answer => answer,
+    }
+}
+
+/// Clones a map of all keys, and tells whether the clone is the same until one more is stored there.
+fn copies<R: Wait>(rt: &R, alloc: Global) -> Result<bool, Fault> {
+    let map = made(alloc)?;
+    let mut session = entered(&map)?;
+    let mut are_there = true;
+    for key in 0..KEYS {
+        are_there = stores(rt, &mut session, key, None, key) && are_there;
+    }
+    let copy = cloned(rt, alloc, &map)?;
+    let mut other = begun(&copy)?;
+    let same = are_same(rt, &mut session, &mut other)?;
+    are_there = stores(rt, &mut other, KEYS, None, 0) && are_there;
+    Ok(same && !are_same(rt, &mut session, &mut other)? && are_there)
+}
+
 /// A map, as JSON.
 fn written<R: Wait>(
     rt: &R,
@@ -395,6 +440,7 @@ fn main(rt: HostRuntime) -> io::Result<()> {
         "all that is made of what is there: {}",
         changes(&rt, rt.alloc())?
     )?;
+    println!(rt; "all copies: {}", copies(&rt, rt.alloc())?)?;
     println!(rt; "all elements: {}", elements(&rt, rt.alloc())?)?;
     let read = reads(&rt, rt.alloc()).map_err(|_| io::Error::other("no map was read"))?;
     println!(rt; "all JSON: {read}")
