@@ -1,4 +1,4 @@
-pub mod Behind
+pub mod Deferrals
 pub mod Chains
 pub mod Drawers
 pub mod Samples
