@@ -4,9 +4,10 @@ ghost use Rattle.std.specs.Prelude.{◌≡◌, IfSome};
 use crate::ground::CHOSEN;
 use seize::Fault;
 use seize_blocks::{Blocks, Home};
+use seize_collector::Shared;
 use seize_guards::{Desk, DeskGuard, MOST_GUARDS};
 use seize_shared::{OfRows, Owned, Registration, RootGuard, Unlinked};
-use seize_shared_tests::{Counted, DropCounts, dropped, table};
+use seize_shared_tests::{Counted, DropCounts, dropped, opened, table};
 use std::alloc::{AllocError, Global};
 use std::mem;
 use std::test::Fail;
@@ -156,16 +157,14 @@ fn what_a_forgotten_guard_of_a_desk_has_seen_is_there_until_the_memory_ends(
     Ok(())
 }
 
-/// What was there is retired under a guard that lends its value still, and another guard is there: how often it was dropped while it was lent, once the first
-/// guard had ended, and once both had.
-fn retires(blocks: &Blocks<Counted, OfRows>, drops: &DropCounts) -> Option<(u64, u64, u64)>
-    requires fixed { blocks.now.words.fixed ≡ record { batch_size = 5; roots = 1; chains = 0 } }
-{
+/// What was there is retired under a guard of a collector's desk that lends its value still, and another guard is there: how often it was dropped while it was
+/// lent, once the first guard had ended, and once both had.
+fn retires(collector: &Shared<'_, Counted>, drops: &DropCounts) -> Option<(u64, u64, u64)> {
     let mut near = 0;
-    if let Some(old) = puts(Owned::new(blocks, &CHOSEN, &mut near, Counted::of(drops, 0)?).ok()?) {
+    if let Some(old) = puts(collector.make(&mut near, Counted::of(drops, 0)?).ok()?) {
         old.kept();
     }
-    let desk = Desk::new(blocks, &CHOSEN).ok()?;
+    let desk = Desk::of(collector).ok()?;
     let Ok(mut outer) = desk.enter() else {
         return None;
     };
@@ -174,17 +173,26 @@ fn retires(blocks: &Blocks<Counted, OfRows>, drops: &DropCounts) -> Option<(u64,
     };
     outer.see(0);
     let lent = outer.value()?;
-    if let Some(old) = puts(Owned::new(blocks, &CHOSEN, &mut near, Counted::of(drops, 1)?).ok()?) {
+    let second = desk
+        .collector()
+        .make(&mut near, Counted::of(drops, 1)?)
+        .ok()?;
+    if let Some(old) = puts(second) {
         if let Err((_, old)) = outer.retire(old) {
             old.kept();
         }
     }
     outer.flush();
     let before = dropped(&lent.drops, lent.place);
+    let same = desk.number() == collector.number() && outer.thread_id() == inner.thread_id();
     drop(outer);
     let one = dropped(drops, 0);
     drop(inner);
-    Some((before, one, dropped(drops, 0)))
+    if same {
+        Some((before, one, dropped(drops, 0)))
+    } else {
+        None
+    }
 }
 
 /// Puts a block at the root, and answers which one was there.
@@ -200,10 +208,10 @@ fn puts<'a>(owned: Owned<'a, Counted>) -> Option<Unlinked<'a, Counted>>
     }
 }
 
-/// The same over one memory, which ends then.
-fn retires_alone(alloc: Global, drops: &DropCounts) -> Result<Option<(u64, u64, u64)>, AllocError> {
-    let home = Home::<Counted, OfRows>::open(alloc, 1, 8, &CHOSEN)?;
-    Ok(retires(&home.blocks, drops))
+/// The same over one collector, which ends then.
+fn retires_alone(alloc: Global, drops: &DropCounts) -> Result<Option<(u64, u64, u64)>, Fault> {
+    let collector = opened(alloc)?;
+    Ok(retires(&collector.shared(), drops))
 }
 
 #[test]

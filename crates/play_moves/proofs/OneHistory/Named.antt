@@ -120,87 +120,86 @@ TellsOf GaveWay word (said.Key (says.Replaced old new)) = old ≡ word
 TellsOf WentOut word (said.Key (says.Removed old)) = old ≡ word
 TellsOf became word it = ⊥
 
-module _ {K V : Type 0} (known : Known) where
-  -- the call is answered so with the number of the pair of this word
-  abbrev IsAnsweredBy : {A : Type 0} → (A → ℕ → Response V) → ℕ → Outcome V → Type 0
-  IsAnsweredBy {A} answer word o = (a : A) × (n : ℕ) × (known.roles (block_in word) ≡ role.Pair n) × (o ≡ Answered (answer a n))
+-- the call is answered so with the number of the pair of this word
+abbrev IsAnsweredBy : {V A : Type 0} → Known → (A → ℕ → Response V) → ℕ → Outcome V → Type 0
+IsAnsweredBy {V} {A} known answer word o = (a : A) × (n : ℕ) × (known.roles (block_in word) ≡ role.Pair n) × (o ≡ Answered (answer a n))
 
-  called : (n word other : ℕ) → other ≡ word → known.roles (block_in other) ≡ role.Pair n → known.roles (block_in word) ≡ role.Pair n
-  called n word other is names = subst (λ (w : ℕ). known.roles (block_in w) ≡ role.Pair n) is names
+called : (known : Known) (n word other : ℕ) → other ≡ word → known.roles (block_in other) ≡ role.Pair n → known.roles (block_in word) ≡ role.Pair n
+called known n word other is names = subst (λ (w : ℕ). known.roles (block_in w) ≡ role.Pair n) is names
 
-  module _ (replies : List (Option ℕ × Reply V)) where
-    -- one that was replaced,
-    given_way : (key : K) (value : V) (old new : ℕ) (o : Outcome V) → HasOutcome known (one_key.Insert key value) replies (progress.Done (said.Key (says.Replaced old new))) o
-        → IsAnsweredBy {A = Unit {0}} (λ _. answers.Found) old o
-    given_way key value old new (Answered a) (inr (p, n, was, names, v, means)) = (tt, p, was, ap Answered (let one : answers.Found p ≡ a = cc means in sym one))
-    given_way key value old new (Answered a) (inl so) = absurd so
-    given_way key value old new _ comes = absurd comes
+module _ {K V : Type 0} (known : Known) (replies : List (Option ℕ × Reply V)) where
+  -- one that was replaced,
+  given_way : (key : K) (value : V) (old new : ℕ) (o : Outcome V) → HasOutcome known (one_key.Insert key value) replies (progress.Done (said.Key (says.Replaced old new))) o
+      → IsAnsweredBy {A = Unit {0}} known (λ _. answers.Found) old o
+  given_way key value old new (Answered a) (inr (p, n, was, names, v, means)) = (tt, p, was, ap Answered (let one : answers.Found p ≡ a = cc means in sym one))
+  given_way key value old new (Answered a) (inl so) = absurd so
+  given_way key value old new _ comes = absurd comes
 
-    -- one of which a test has said yes,
-    taken_if : (key : K) (word : ℕ) (o : Outcome V) → HasOutcome known (one_key.RemoveIf key) replies (progress.Done (said.Key (says.Removed word))) o → IsAnsweredBy {A = Unit {0}} (λ _. answers.Found) word o
-    taken_if key word (Answered a) (inr (p, names, means)) = (tt, p, names, ap Answered (removed_so a _ p (means 0)))
-    taken_if key word (Answered a) (inl so) = absurd so
-    taken_if key word _ comes = absurd comes
+  -- one of which a test has said yes,
+  taken_if : (key : K) (word : ℕ) (o : Outcome V) → HasOutcome known (one_key.RemoveIf key) replies (progress.Done (said.Key (says.Removed word))) o → IsAnsweredBy {A = Unit {0}} known (λ _. answers.Found) word o
+  taken_if key word (Answered a) (inr (p, names, means)) = (tt, p, names, ap Answered (removed_so a _ p (means 0)))
+  taken_if key word (Answered a) (inl so) = absurd so
+  taken_if key word _ comes = absurd comes
 
-    -- one that is there where what is made was to be stored,
-    put_with : (key : K) (word : ℕ) (it : Said) (o : Outcome V) → HasOutcome known (one_key.TryInsertWith key) replies (progress.Done it) o → pair_there it ≡ Some word
-        → IsAnsweredBy {A = Bool} (λ stored n. if stored then answers.Stored n else answers.Kept n) word o
-    put_with key word (said.Key (says.Stored new)) (Answered a) (inr (n, names, v, means)) is =
-        (true, n, called n word new (same_some new word is) names, ap Answered (given_so a _ (answers.Stored n) v means))
-    put_with key word (said.Key (says.Found old)) (Answered a) (inl (n, names, means)) is =
-        (false, n, called n word old (same_some old word is) names, ap Answered (let so = means 0 in let one : answers.Kept n ≡ a = cc so in sym one))
-    put_with key word (said.Key (says.Replaced old new)) (Answered a) (inr (o, n, was, names, v, means)) is = absurd (cc means)
-    put_with key word (said.Key (says.Found old)) (Answered a) (inr done) is = absurd done
-    put_with key word (said.Key (says.Stored new)) (Answered a) (inl so) is = absurd so
-    put_with key word (said.Key (says.Replaced old new)) (Answered a) (inl so) is = absurd so
-    put_with key word (said.Key (says.Removed old)) o comes is = absurd (cc is)
-    put_with key word (said.Key says.Absent) o comes is = absurd (cc is)
-    put_with key word _ _ comes is = absurd comes
+  -- one that is there where what is made was to be stored,
+  put_with : (key : K) (word : ℕ) (it : Said) (o : Outcome V) → HasOutcome known (one_key.TryInsertWith key) replies (progress.Done it) o → pair_there it ≡ Some word
+      → IsAnsweredBy {A = Bool} known (λ stored n. if stored then answers.Stored n else answers.Kept n) word o
+  put_with key word (said.Key (says.Stored new)) (Answered a) (inr (n, names, v, means)) is =
+      (true, n, called known n word new (same_some new word is) names, ap Answered (given_so a _ (answers.Stored n) v means))
+  put_with key word (said.Key (says.Found old)) (Answered a) (inl (n, names, means)) is =
+      (false, n, called known n word old (same_some old word is) names, ap Answered (let so = means 0 in let one : answers.Kept n ≡ a = cc so in sym one))
+  put_with key word (said.Key (says.Replaced old new)) (Answered a) (inr (o, n, was, names, v, means)) is = absurd (cc means)
+  put_with key word (said.Key (says.Found old)) (Answered a) (inr done) is = absurd done
+  put_with key word (said.Key (says.Stored new)) (Answered a) (inl so) is = absurd so
+  put_with key word (said.Key (says.Replaced old new)) (Answered a) (inl so) is = absurd so
+  put_with key word (said.Key (says.Removed old)) o comes is = absurd (cc is)
+  put_with key word (said.Key says.Absent) o comes is = absurd (cc is)
+  put_with key word _ _ comes is = absurd comes
 
-    -- and one of which this became
-    became_so : (became : Became) (key : K) (word : ℕ) (it : Said) (o : Outcome V) → HasOutcome known (one_key.Compute key) replies (progress.Done it) o → TellsOf became word it
-        → IsAnsweredBy {A = ℕ} (computed_so became) word o
-    became_so CameIn key word (said.Key (says.Stored new)) (Answered a) (inr (n, names, v, means)) is = (0, n, called n word new is names, ap Answered (came_in a _ n v means))
-    became_so TookItsPlace key word (said.Key (says.Replaced old new)) (Answered a) (inr (p, n, was, names, v, means)) is =
-        (p, n, called n word new is names, ap Answered (took_its_place a _ p n v means))
-    became_so GaveWay key word (said.Key (says.Replaced old new)) (Answered a) (inr (p, n, was, names, v, means)) is =
-        (n, p, called p word old is was, ap Answered (took_its_place a _ p n v means))
-    became_so WentOut key word (said.Key (says.Removed old)) (Answered a) (inr (p, names, means)) is = (0, p, called p word old is names, ap Answered (went_out a _ p 0 (means 0)))
-    became_so CameIn key word (said.Key (says.Stored new)) (Answered a) (inl so) is = absurd so
-    became_so TookItsPlace key word (said.Key (says.Replaced old new)) (Answered a) (inl so) is = absurd so
-    became_so GaveWay key word (said.Key (says.Replaced old new)) (Answered a) (inl so) is = absurd so
-    became_so WentOut key word (said.Key (says.Removed old)) (Answered a) (inl so) is = absurd so
-    became_so CameIn key word (said.Key (says.Stored new)) _ comes is = absurd comes
-    became_so TookItsPlace key word (said.Key (says.Replaced old new)) _ comes is = absurd comes
-    became_so GaveWay key word (said.Key (says.Replaced old new)) _ comes is = absurd comes
-    became_so WentOut key word (said.Key (says.Removed old)) _ comes is = absurd comes
-    became_so _ key word _ o comes is = absurd is
+  -- and one of which this became
+  became_so : (became : Became) (key : K) (word : ℕ) (it : Said) (o : Outcome V) → HasOutcome known (one_key.Compute key) replies (progress.Done it) o → TellsOf became word it
+      → IsAnsweredBy {A = ℕ} known (computed_so became) word o
+  became_so CameIn key word (said.Key (says.Stored new)) (Answered a) (inr (n, names, v, means)) is = (0, n, called known n word new is names, ap Answered (came_in a _ n v means))
+  became_so TookItsPlace key word (said.Key (says.Replaced old new)) (Answered a) (inr (p, n, was, names, v, means)) is =
+      (p, n, called known n word new is names, ap Answered (took_its_place a _ p n v means))
+  became_so GaveWay key word (said.Key (says.Replaced old new)) (Answered a) (inr (p, n, was, names, v, means)) is =
+      (n, p, called known p word old is was, ap Answered (took_its_place a _ p n v means))
+  became_so WentOut key word (said.Key (says.Removed old)) (Answered a) (inr (p, names, means)) is = (0, p, called known p word old is names, ap Answered (went_out a _ p 0 (means 0)))
+  became_so CameIn key word (said.Key (says.Stored new)) (Answered a) (inl so) is = absurd so
+  became_so TookItsPlace key word (said.Key (says.Replaced old new)) (Answered a) (inl so) is = absurd so
+  became_so GaveWay key word (said.Key (says.Replaced old new)) (Answered a) (inl so) is = absurd so
+  became_so WentOut key word (said.Key (says.Removed old)) (Answered a) (inl so) is = absurd so
+  became_so CameIn key word (said.Key (says.Stored new)) _ comes is = absurd comes
+  became_so TookItsPlace key word (said.Key (says.Replaced old new)) _ comes is = absurd comes
+  became_so GaveWay key word (said.Key (says.Replaced old new)) _ comes is = absurd comes
+  became_so WentOut key word (said.Key (says.Removed old)) _ comes is = absurd comes
+  became_so _ key word _ o comes is = absurd is
 
-    -- Where none was removed, none was to be, or there was none;
-    kept_so : (key : K) (it : Said) (o : Outcome V) → HasOutcome known (one_key.RemoveIf key) replies (progress.Done it) o → (Left : Said → Type 0) → ((word : ℕ) → Left (said.Key (says.Removed word)) → ⊥)
-        → Left it → (pair : Option ℕ) × (o ≡ Answered (kept pair))
-    kept_so key (said.Key says.Absent) (Answered a) (inl means) Left no left = (None, ap Answered (let is = means 0 in let one : answers.Absent ≡ a = cc is in sym one))
-    kept_so key (said.Key (says.Found word)) (Answered a) (inl (n, names, means)) Left no left = (Some n, ap Answered (left_so a _ n (means 0)))
-    kept_so key (said.Key (says.Removed word)) o comes Left no left = absurd (no word left)
-    kept_so key (said.Key (says.Stored new)) (Answered a) (inr (n, names, v, means)) Left no left = absurd (cc means)
-    kept_so key (said.Key (says.Replaced old new)) (Answered a) (inr (o, n, was, names, v, means)) Left no left = absurd (puts_none a _ o v means)
-    kept_so key (said.Key says.Absent) (Answered a) (inr done) Left no left = absurd done
-    kept_so key (said.Key (says.Found word)) (Answered a) (inr done) Left no left = absurd done
-    kept_so key (said.Key (says.Stored new)) (Answered a) (inl so) Left no left = absurd so
-    kept_so key (said.Key (says.Replaced old new)) (Answered a) (inl so) Left no left = absurd so
-    kept_so key _ _ comes Left no left = absurd comes
+  -- Where none was removed, none was to be, or there was none;
+  kept_so : (key : K) (it : Said) (o : Outcome V) → HasOutcome known (one_key.RemoveIf key) replies (progress.Done it) o → (Left : Said → Type 0) → ((word : ℕ) → Left (said.Key (says.Removed word)) → ⊥)
+      → Left it → (pair : Option ℕ) × (o ≡ Answered (kept pair))
+  kept_so key (said.Key says.Absent) (Answered a) (inl means) Left gone left = (None, ap Answered (let is = means 0 in let one : answers.Absent ≡ a = cc is in sym one))
+  kept_so key (said.Key (says.Found word)) (Answered a) (inl (n, names, means)) Left gone left = (Some n, ap Answered (left_so a _ n (means 0)))
+  kept_so key (said.Key (says.Removed word)) o comes Left gone left = absurd (gone word left)
+  kept_so key (said.Key (says.Stored new)) (Answered a) (inr (n, names, v, means)) Left gone left = absurd (cc means)
+  kept_so key (said.Key (says.Replaced old new)) (Answered a) (inr (o, n, was, names, v, means)) Left gone left = absurd (puts_none a _ o v means)
+  kept_so key (said.Key says.Absent) (Answered a) (inr done) Left gone left = absurd done
+  kept_so key (said.Key (says.Found word)) (Answered a) (inr done) Left gone left = absurd done
+  kept_so key (said.Key (says.Stored new)) (Answered a) (inl so) Left gone left = absurd so
+  kept_so key (said.Key (says.Replaced old new)) (Answered a) (inl so) Left gone left = absurd so
+  kept_so key _ _ comes Left gone left = absurd comes
 
-    -- and where a closure has changed nothing, it has said so.
-    aborted_so : (key : K) (it : Said) (o : Outcome V) → HasOutcome known (one_key.Compute key) replies (progress.Done it) o → (Left : Said → Type 0) → ((new : ℕ) → Left (said.Key (says.Stored new)) → ⊥)
-        → ((old new : ℕ) → Left (said.Key (says.Replaced old new)) → ⊥) → ((word : ℕ) → Left (said.Key (says.Removed word)) → ⊥) → Left it → (end : V) × (o ≡ Answered (answers.Aborted end))
-    aborted_so key (said.Key says.Absent) (Answered a) (inl means) Left none other gone left = let is = aborted_none a _ 0 (means 0) in (is.0, ap Answered is.1)
-    aborted_so key (said.Key (says.Found word)) (Answered a) (inl (n, names, means)) Left none other gone left = let is = aborted_one a _ n 0 (means 0) in (is.0, ap Answered is.1)
-    aborted_so key (said.Key (says.Stored new)) o comes Left none other gone left = absurd (none new left)
-    aborted_so key (said.Key (says.Replaced old new)) o comes Left none other gone left = absurd (other old new left)
-    aborted_so key (said.Key (says.Removed word)) o comes Left none other gone left = absurd (gone word left)
-    aborted_so key (said.Key says.Absent) (Answered a) (inr done) Left none other gone left = absurd done
-    aborted_so key (said.Key (says.Found word)) (Answered a) (inr done) Left none other gone left = absurd done
-    aborted_so key _ _ comes Left none other gone left = absurd comes
+  -- and where a closure has changed nothing, it has said so.
+  aborted_so : (key : K) (it : Said) (o : Outcome V) → HasOutcome known (one_key.Compute key) replies (progress.Done it) o → (Left : Said → Type 0) → ((new : ℕ) → Left (said.Key (says.Stored new)) → ⊥)
+      → ((old new : ℕ) → Left (said.Key (says.Replaced old new)) → ⊥) → ((word : ℕ) → Left (said.Key (says.Removed word)) → ⊥) → Left it → (end : V) × (o ≡ Answered (answers.Aborted end))
+  aborted_so key (said.Key says.Absent) (Answered a) (inl means) Left none other gone left = let is = aborted_none a _ 0 (means 0) in (is.0, ap Answered is.1)
+  aborted_so key (said.Key (says.Found word)) (Answered a) (inl (n, names, means)) Left none other gone left = let is = aborted_one a _ n 0 (means 0) in (is.0, ap Answered is.1)
+  aborted_so key (said.Key (says.Stored new)) o comes Left none other gone left = absurd (none new left)
+  aborted_so key (said.Key (says.Replaced old new)) o comes Left none other gone left = absurd (other old new left)
+  aborted_so key (said.Key (says.Removed word)) o comes Left none other gone left = absurd (gone word left)
+  aborted_so key (said.Key says.Absent) (Answered a) (inr done) Left none other gone left = absurd done
+  aborted_so key (said.Key (says.Found word)) (Answered a) (inr done) Left none other gone left = absurd done
+  aborted_so key _ _ comes Left none other gone left = absurd comes
 
 module _ {K V S : Type 0} (same : K → K → Bool) (hash : S → K → ℕ) (fixed : Fixed) (small : fixed.batch_size < 2 ^ 64) (id t : ℕ) (v : View K V S) (map : Map S) (run : BegunCall K V)
     (before : List (BegunCall K V)) (knows : v.map ≡ Some map) (section : section_of v.under v.slot ≡ Some t) (calls_are : v.calls ≡ run ∷ before) where
@@ -208,7 +207,7 @@ module _ {K V S : Type 0} (same : K → K → Bool) (hash : S → K → ℕ) (fi
   module _ (one : OneKey K V) (wanted : Wanted K V) (simple : plain wanted ≡ wanted) (call_is : call_for wanted ≡ On one) (it : Said) (began : run.began ≡ machine_for same hash map t wanted)
       (told : run.told ≡ progress.Done it) (word : ℕ) (stored : K) (value : V) (shown : shown_in v.held (block_in word) ≡ Some (Pair stored value)) where
     named : {A : Type 0} (answer : A → ℕ → Response V)
-        → ((known : Known) (replies : List (Option ℕ × Reply V)) (o : Outcome V) → HasOutcome known one replies (progress.Done it) o → IsAnsweredBy {K = K} {V = V} known answer word o)
+        → ((known : Known) (replies : List (Option ℕ × Reply V)) (o : Outcome V) → HasOutcome known one replies (progress.Done it) o → IsAnsweredBy known answer word o)
         → (So : ℕ → ℕ → List (Entry K V) → Entry K V → Type 0)
         → ((i m : ℕ) (log : List (Entry K V)) (e : Entry K V) (a : A) → WasNamed same i m (On one) (answer a) (stored, value) log e → So i m log e) → ItsCall same hash fixed id v So
     named answer by So so =
@@ -255,12 +254,12 @@ module _ {K V S : Type 0} (same : K → K → Bool) (hash : S → K → ℕ) (fi
   -- It has left the pair of a key, of which no test said yes, or there was none,
   pub has_kept : (key : K) (it : Said) → run.began ≡ machine_for same hash map t (RemoveIf key) → run.told ≡ progress.Done it → (Left : Said → Type 0)
       → ((word : ℕ) → Left (said.Key (says.Removed word)) → ⊥) → Left it → HasKept same hash fixed id v key
-  has_kept key it began told Left no left =
+  has_kept key it began told Left gone left =
       by_newest same hash fixed small id t v map run before knows section calls_are (RemoveIf key) refl began (ap has_ended told)
       (λ i m log e. (pair : Option ℕ) × IsItsEnd same i m (On (one_key.RemoveIf key)) (Answered (kept pair)) log e) (λ log e ends.
       let o = outcome_of ends.0 (kind_of (call_for {K = K} {V = V} (RemoveIf key))) ends.1 run.told in
       let on = ends.4 (one_key.RemoveIf key) refl in
-      let by = kept_so ends.0 on.0 key it o (subst (λ (p : Progress (Node K V)). HasOutcome ends.0 (one_key.RemoveIf key) on.0 p o) told on.1) Left no left in
+      let by = kept_so ends.0 on.0 key it o (subst (λ (p : Progress (Node K V)). HasOutcome ends.0 (one_key.RemoveIf key) on.0 p o) told on.1) Left gone left in
       (by.0, subst (λ (a : Outcome V). IsItsEnd same (caller_at id t) map.number (On (one_key.RemoveIf key)) a log e) by.1 ends.2))
 
   -- or was to change nothing.
