@@ -1,28 +1,33 @@
 -- What a seat may do that takes a block out of a root, and puts it behind another one; and what it knows then.
-use Rattle.std.specs.Prelude.{◌≢◌, ◌<◌, ◌^◌, ◌%◌, ◌==◌, Option, Some, None, Ok, Err}
-use Rattle.std.proofs.Common.{◌≡◌, ℕ, Bool, true, false, refl, sym, subst, ap, ◌∙◌, inl}
-use Rattle.std.proofs.lemmas.Bool.{eq-eqb, ne_eqb}
+use Rattle.std.specs.Prelude.{◌≢◌, ◌<◌, ◌^◌, ◌%◌, ◌==◌, Option, Some, None, Result, Ok, Err, IfSome, if◌then◌else◌}
+use Rattle.std.proofs.Common.{◌≡◌, ℕ, Bool, true, false, ◌⊎◌, inl, inr, refl, sym, subst, ap, ◌∙◌}
+use Rattle.std.proofs.lemmas.Bool.{cases_eq, eq-eqb, ne_eqb}
 use Rattle.seize_words.specs.OneMemory.Op.{Op, Load, Store, Swap, Exchange, Found, Stored, Exchanged}
 use Rattle.seize_words.specs.OneMemory.Word.{block_in, link_to}
 use Rattle.seize_words.specs.declared.at.At.TheVariants.{Root, Entry, Word}
-use Rattle.seize.specs.Defer.{deferring, standing, defer_plan}
+use Rattle.seize.specs.Defer.{deferring, standing}
 use Rattle.seize.specs.declared.rows.defer.Defer.{Defer}
-use Rattle.seize.specs.declared.rows.defer.Deferring.TheVariants.{Reads, Links, Pushes, Over}
+use Rattle.seize.specs.declared.rows.defer.Deferring.TheVariants.{Links, Pushes, Over}
 use Rattle.seize.specs.declared.states.TheConstants.{NEXT}
 use Rattle.seize_seats.specs.Seats.Errands.{TurnsUnlent}
 use Rattle.seize_seats.specs.Seats.Lendings.{VisibleTo, IsValueOf}
 use Rattle.seize_seats.specs.Seats.State.{Allows}
+use Rattle.seize_shared.specs.Guards.Deeds.{has_taken}
+use Rattle.seize_shared.specs.OnThreads.Standing.{standing}
+use Rattle.seize_shared.proofs.OnThreads.Standing.{is_inside}
 use Rattle.seize_views.specs.Views.Deferring.{IsTaking, IsPutting, LinksSo, NotedTaking, NotedPutting, cutting, returning}
-use Rattle.seize_views.specs.Views.Notes.{NotedHolds, NotedKeeps, noted_observed, deed}
+use Rattle.seize_views.specs.Views.Notes.{NotedHolds, NotedKeeps, noted_observed, SameNotes, deed, written_at}
+use Rattle.seize_views.specs.Views.Promises.{IsLooking}
 use Rattle.seize_views.specs.Views.Rows.{IsQuiescent, TurnsTo, Holds}
 use Rattle.seize_views.specs.Views.Stacking.{GoesItsWay}
-use Rattle.seize_views.specs.Views.Told.{parted_in, told}
-use Rattle.seize_views.specs.Views.Watched.{Leans, LeansOn, IsOwn, open_at}
+use Rattle.seize_views.specs.Views.Told.{made_beside, parted_in, seen_as, told}
+use Rattle.seize_views.specs.Views.Watched.{Leans, IsOwn, open_at}
 use Rattle.seize_views.specs.declared.view.Began.TheVariants as began
 use Rattle.seize_views.specs.declared.view.Deed.{Deed}
 use Rattle.seize_views.specs.declared.view.Deed.TheVariants.{Wrote}
 use Rattle.seize_views.specs.declared.view.Deferral.TheVariants.{Takes, Parts, Puts}
 use Rattle.seize_views.specs.declared.view.Fixed.{Fixed}
+use Rattle.seize_views.specs.declared.view.Has.{Has}
 use Rattle.seize_views.specs.declared.view.Has.TheVariants.{Nothing, Seen, Both, Cut}
 use Rattle.seize_views.specs.declared.view.Noted.{Noted}
 use Rattle.seize_views.specs.declared.view.SlotView.{SlotView}
@@ -31,9 +36,10 @@ use Rattle.seize_views.proofs.Views.Deferring.{takings_begin, blocks_are_taken_o
 use Rattle.seize_views.proofs.Views.Notes.{looks_are_noted, turns, turns_are_noted}
 use Rattle.seize_views.proofs.Views.Written.{block_of_link}
 use Rattle.seize_callers.proofs.Calls.{by_view, whole_link}
-use Rattle.seize_guards.specs.Behind.{beside, value_made, putting, IsCome, IsOver}
+use Rattle.seize_guards.specs.Behind.{beside, value_made, putting, IsCome}
 use Rattle.seize_guards.specs.declared.deferring.Came.{Came}
 use Rattle.seize_guards.specs.declared.deferring.Came.TheVariants.{Nobody, Waits, Unlinks}
+use Rattle.seize_words.proofs.General.{same_some}
 
 -- ---- what it knows
 module _ {T : Type 0} (slot a : ℕ) where
@@ -107,6 +113,13 @@ module _ {T : Type 0} (defers : T → Option ℕ) (fixed : Fixed) (id : ℕ) (v 
           (parted_are_shown T defers fixed id slot a b y x).1.1 z
           (subst (λ (u : SlotView T). IsValueOf (Holds defers fixed) id u b z) is ((looks_are_noted T defers fixed id v b).1 z of))
 
+      -- where its list begins, if it keeps one, and the other one keeps none
+      pub keeps_if : (o : Option ℕ) (z u : T) → o ≡ defers z → defers u ≡ None → IsValueOf (NotedHolds defers fixed) id v a z → IsValueOf (NotedHolds defers fixed) id v b u
+          → IfSome o (λ field. (y x : T) → HasParted y x → (defers y ≡ Some field) × (defers x ≡ None))
+      keeps_if None z u keeps none first second = tt
+      keeps_if (Some field) z u keeps none first second = λ y x is.
+          (ap defers (sym (first_value y x z is first)) ∙ sym keeps, ap defers (sym (second_value y x u is second)) ∙ none)
+
       pub may_unlink : (y x : T) → HasParted y x → MayTurn (GoesItsWay cutting v)
       may_unlink y x is = turns_to (Defers slot (Parts a y b x)) (Inside slot (Cut b)) cutting is refl tt tt refl (parted_are_cut T defers fixed id slot a b y x)
 
@@ -139,6 +152,13 @@ module _ {T : Type 0} (defers : T → Option ℕ) (fixed : Fixed) (id : ℕ) (v 
         pub may_end : v.knows ≡ putting slot a field b Over → MayTurn (GoesItsWay returning v)
         may_end is = turns_to (putting slot a field b Over) (Inside slot (Seen a)) returning is refl tt tt refl (deferrals_end T defers fixed id slot a (standing c Over) refl)
 
+-- the row has begun then
+pub putting_of : {T : Type 0} (defers : T → Option ℕ) (v u : SlotView T) (slot a b field : ℕ) (y x : T) → v ≡ Defers slot (Parts a y b x) → defers y ≡ Some field → IsPutting defers v u
+    → u ≡ Defers slot (Puts a (deferring (link_to b) (Word a field)))
+putting_of {T} defers v u slot a b field y x is keeps so =
+    let k = subst (λ (z : SlotView T). IsPutting defers z u) is so in
+    k.2 ∙ ap (λ (f : ℕ). Defers slot (Puts a (deferring (link_to b) (Word a f)))) (same_some k.0 field (sym k.1 ∙ keeps))
+
 -- ---- what an operation tells it
 module _ {T : Type 0} (defers : T → Option ℕ) (v w : SlotView T) (slot a : ℕ) where
   pub taken_out : (y : T) (made : Option (ℕ × T)) (root word old : ℕ) → v ≡ Defers slot (Takes a y made) → told defers v (Swap (Root root) word) (Found old) w
@@ -157,20 +177,33 @@ module _ {T : Type 0} (defers : T → Option ℕ) (v w : SlotView T) (slot a : �
     linked_told head is so =
         let k = subst (λ (z : SlotView T). told defers z (Store (Entry b NEXT) head) Stored w) is so in k.2 ∙ ap (λ (e : Defer × _). Defers slot (Puts a e.0)) k.1.3
 
-    pub pushed_told : (head word was : ℕ) → v ≡ putting slot a field b (Pushes head) → told defers v (Exchange (Word a field) head word) (Exchanged (Ok was)) w
+    pub pushed_told : (head word : ℕ) (r : Result ℕ ℕ) (was : ℕ) → r ≡ Ok was → v ≡ putting slot a field b (Pushes head) → told defers v (Exchange (Word a field) head word) (Exchanged r) w
         → w ≡ putting slot a field b Over
-    pushed_told head word was is so =
-        let k = subst (λ (z : SlotView T). told defers z (Exchange (Word a field) head word) (Exchanged (Ok was)) w) is so in k.2 ∙ ap (λ (e : Defer × _). Defers slot (Puts a e.0)) k.1.3
+    pushed_told head word r was came is so =
+        let k = subst (λ (q : Result ℕ ℕ). told defers (putting slot a field b (Pushes head)) (Exchange (Word a field) head word) (Exchanged q) w) came
+        (subst (λ (z : SlotView T). told defers z (Exchange (Word a field) head word) (Exchanged r) w) is so) in k.2 ∙ ap (λ (e : Defer × _). Defers slot (Puts a e.0)) k.1.3
 
-    pub changed_told : (head word now : ℕ) → v ≡ putting slot a field b (Pushes head) → told defers v (Exchange (Word a field) head word) (Exchanged (Err now)) w
-        → w ≡ putting slot a field b (Links now)
-    changed_told head word now is so =
-        let k = subst (λ (z : SlotView T). told defers z (Exchange (Word a field) head word) (Exchanged (Err now)) w) is so in k.2 ∙ ap (λ (e : Defer × _). Defers slot (Puts a e.0)) k.1.3
+    pub changed_told : (head word : ℕ) (r : Result ℕ ℕ) (now : ℕ) → r ≡ Err now → v ≡ putting slot a field b (Pushes head)
+        → told defers v (Exchange (Word a field) head word) (Exchanged r) w → w ≡ putting slot a field b (Links now)
+    changed_told head word r now came is so =
+        let k = subst (λ (q : Result ℕ ℕ). told defers (putting slot a field b (Pushes head)) (Exchange (Word a field) head word) (Exchanged q) w) came
+        (subst (λ (z : SlotView T). told defers z (Exchange (Word a field) head word) (Exchanged r) w) is so) in k.2 ∙ ap (λ (e : Defer × _). Defers slot (Puts a e.0)) k.1.3
 
 -- what it has done at the root
 module _ {T : Type 0} (v : SlotView T) (did d : Deed T) (slot a root word old : ℕ) where
   pub taken_noted : (y : T) (made : Option (ℕ × T)) → v ≡ Defers slot (Takes a y made) → d ≡ deed v did (Swap (Root root) word) (Found old) → d ≡ Wrote root word (value_made made) old
   taken_noted y made is so = so ∙ ap (λ (u : SlotView T). deed u did (Swap (Root root) word) (Found old)) is
+
+-- which is nothing while the row is under way
+module _ {T : Type 0} (v u w : Noted T) (slot a field b head word : ℕ) (r : Result ℕ ℕ) where
+  pub noted_still : v.knows ≡ putting slot a field b (Links head) → u.knows ≡ putting slot a field b (Pushes head)
+      → (u.did ≡ deed v.knows v.did (Store (Entry b NEXT) head) Stored) × (u.began ≡ v.began) × (u.guards ≡ v.guards)
+      → (w.did ≡ deed u.knows u.did (Exchange (Word a field) head word) (Exchanged r)) × (w.began ≡ u.began) × (w.guards ≡ u.guards) → SameNotes v w
+  noted_still is then one two = (
+    two.0 ∙ ap (λ (k : SlotView T). deed k u.did (Exchange (Word a field) head word) (Exchanged r)) then ∙ one.0 ∙ ap (λ (k : SlotView T). deed k v.did (Store (Entry b NEXT) head) Stored) is,
+    two.1 ∙ one.1,
+    two.2 ∙ one.2,
+  )
 
 -- ---- where it was none, and where it was one
 module _ {T : Type 0} (slot a : ℕ) (y x : T) (old : ℕ) where
@@ -182,8 +215,46 @@ module _ {T : Type 0} (slot a : ℕ) (y x : T) (old : ℕ) where
       rw (ne_eqb (block_in old) 0 (λ e. some (is ∙ e))) (ap (λ (k : ℕ). Defers slot (Parts a y k x)) (sym is))
 
 module _ {T : Type 0} (slot a b : ℕ) (w : Noted T) where
-  -- it rests
+  -- it rests, and what it has seen it has seen still, where it has not unlinked what was there
   pub come_rests : (came : Came) → IsCome slot a b w came → IsQuiescent w.knows
   come_rests Nobody is = subst IsQuiescent (sym is.0) tt
   come_rests Waits is = subst IsQuiescent (sym is.0) tt
   come_rests (Unlinks c) is = subst IsQuiescent (sym is.0) tt
+
+  pub come_as : (came other : Came) → came ≡ other → IsCome slot a b w came → IsCome slot a b w other
+  come_as came other is so = subst (IsCome slot a b w) is so
+
+-- ---- who stands so
+module _ {T : Type 0} (t k : ℕ) where
+  pub seen_stands : (v : SlotView T) → v ≡ Inside t (Seen k) → k ≢ 0 → standing v ≡ Some (t, true, k)
+  seen_stands v is some = ap standing is ∙ rw (ne_eqb k 0 some) refl
+
+  seen_of : (has : Has T) → IsLooking has → standing (Inside t has) ≡ Some (t, true, k) → k ≢ 0 → Inside t has ≡ Inside t (Seen k)
+  seen_of Nothing looks e some = absurd (some (cc e))
+  seen_of (Seen b) looks e some = by (b == 0) e
+    where
+      by : (y : Bool) → (if y then None else Some (t, true, b)) ≡ Some (t, true, k) → Inside t (Seen b) ≡ Inside t (Seen k)
+      by true f = absurd (cc f)
+      by false f = ap (λ (n : ℕ). Inside t (Seen n)) (cc f)
+  seen_of _ looks e some = absurd looks
+
+  pub stands_seen : (v : SlotView T) → standing v ≡ Some (t, true, k) → k ≢ 0 → v ≡ Inside t (Seen k)
+  stands_seen v e some = let i = is_inside t k v e in i.2 ∙ seen_of i.0 i.1 (ap standing (sym i.2) ∙ e) some
+
+-- what was made beside a block that was seen
+pub made_seen : {T : Type 0} (b : ℕ) (x : T) (a : ℕ) → a ≢ 0 → made_beside b x a ≡ Both b x a
+made_seen b x a some = rw (ne_eqb a 0 some) refl
+
+pub seen_some : {T : Type 0} (a : ℕ) → a ≢ 0 → Seen {T = T} a ≡ seen_as a
+seen_some a some = rw (ne_eqb a 0 some) refl
+
+-- ---- what was done at a root, if a block was there
+module _ {T : Type 0} (d : Deed T) (root old : ℕ) where
+  pub took : d ≡ Wrote root 0 None old → block_in old ≢ 0 → has_taken d ≡ Some root
+  took is some = ap has_taken is ∙ rw (ne_eqb (block_in old) 0 some) refl
+
+  pub took_or_none : d ≡ Wrote root 0 None old → (has_taken d ≡ Some root) ⊎ (written_at d ≡ Some (root, None, 0))
+  took_or_none is = elim (cases_eq (block_in old) 0) as (λ _. (has_taken d ≡ Some root) ⊎ (written_at d ≡ Some (root, None, 0))) [
+    | inl none ↦ inr (ap written_at is ∙ ap (λ (k : ℕ). Some (root, None, k)) none)
+    | inr some ↦ inl (took is some)
+  ]
