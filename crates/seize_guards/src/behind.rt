@@ -141,10 +141,7 @@ fn swaps_behind<T: Defers + Drop, W: Wait>(
     ensures back { IfErr result (λ back. back ≡ value) }
     ensures put { IfOk result (λ _. has_put stay.new.caller.seat.view.did ≡ Some (root, value)) }
 {
-    let block = match stay
-        .caller
-        .make_beside(stay.slot, stay.seen, value)
-    {
+    let block = match stay.caller.make_beside(stay.slot, stay.seen, value) {
         Ok(block) => block,
         Err(value) => return Err(value),
     };
@@ -154,7 +151,8 @@ fn swaps_behind<T: Defers + Drop, W: Wait>(
     Ok(taken.waits)
 }
 
-impl<'r, 'a, T: Defers + Drop, R: Receiver<T>> DeferringGuard<T> for LocalGuard<'r, 'a, T, OfRows, R> {
+impl<'r, 'a, T: Defers + Drop, R: Receiver<T>> DeferringGuard<T>
+    for LocalGuard<'r, 'a, T, OfRows, R> {
     fn clear_behind<W: Wait>(&mut self, rt: &W, root: u64) -> bool {
         if !has_seen(&self.registration.stay, root) {
             self.clear(root);
