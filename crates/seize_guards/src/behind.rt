@@ -49,6 +49,7 @@ fn has_seen<T: Defers + Drop>(stay: &Stay<'_, T>, root: u64) -> bool
 }
 
 /// What came of it: the word that was at the root, whether the block that it named waits, and which one is seen then, 0 for none.
+#[derive(Drop)]
 struct Taken {
     old: u64,
     waits: bool,
