@@ -13,7 +13,7 @@ use Rattle.seize_seats.specs.Seats.Errands.{TurnsUnlent}
 use Rattle.seize_seats.specs.Seats.Lendings.{VisibleTo, IsValueOf}
 use Rattle.seize_seats.specs.Seats.State.{Allows}
 use Rattle.seize_shared.specs.Guards.Deeds.{has_taken}
-use Rattle.seize_shared.specs.OnThreads.Standing.{standing}
+use Rattle.seize_shared.specs.OnThreads.Standing.{standing as stands_so}
 use Rattle.seize_shared.proofs.OnThreads.Standing.{is_inside}
 use Rattle.seize_views.specs.Views.Deferring.{IsTaking, IsPutting, LinksSo, NotedTaking, NotedPutting, cutting, returning}
 use Rattle.seize_views.specs.Views.Notes.{NotedHolds, NotedKeeps, noted_observed, SameNotes, deed, written_at}
@@ -226,10 +226,10 @@ module _ {T : Type 0} (slot a b : ℕ) (w : Noted T) where
 
 -- ---- who stands so
 module _ {T : Type 0} (t k : ℕ) where
-  pub seen_stands : (v : SlotView T) → v ≡ Inside t (Seen k) → k ≢ 0 → standing v ≡ Some (t, true, k)
-  seen_stands v is some = ap standing is ∙ rw (ne_eqb k 0 some) refl
+  pub seen_stands : (v : SlotView T) → v ≡ Inside t (Seen k) → k ≢ 0 → stands_so v ≡ Some (t, true, k)
+  seen_stands v is some = ap stands_so is ∙ rw (ne_eqb k 0 some) refl
 
-  seen_of : (has : Has T) → IsLooking has → standing (Inside t has) ≡ Some (t, true, k) → k ≢ 0 → Inside t has ≡ Inside t (Seen k)
+  seen_of : (has : Has T) → IsLooking has → stands_so (Inside t has) ≡ Some (t, true, k) → k ≢ 0 → Inside t has ≡ Inside t (Seen k)
   seen_of Nothing looks e some = absurd (some (cc e))
   seen_of (Seen b) looks e some = by (b == 0) e
     where
@@ -238,8 +238,8 @@ module _ {T : Type 0} (t k : ℕ) where
       by false f = ap (λ (n : ℕ). Inside t (Seen n)) (cc f)
   seen_of _ looks e some = absurd looks
 
-  pub stands_seen : (v : SlotView T) → standing v ≡ Some (t, true, k) → k ≢ 0 → v ≡ Inside t (Seen k)
-  stands_seen v e some = let i = is_inside t k v e in i.2 ∙ seen_of i.0 i.1 (ap standing (sym i.2) ∙ e) some
+  pub stands_seen : (v : SlotView T) → stands_so v ≡ Some (t, true, k) → k ≢ 0 → v ≡ Inside t (Seen k)
+  stands_seen v e some = let i = is_inside t k v e in i.2 ∙ seen_of i.0 i.1 (ap stands_so (sym i.2) ∙ e) some
 
 -- what was made beside a block that was seen
 pub made_seen : {T : Type 0} (b : ℕ) (x : T) (a : ℕ) → a ≢ 0 → made_beside b x a ≡ Both b x a
