@@ -128,7 +128,7 @@ module _ {T : Type 0} (defers : T → Option ℕ) (fixed : Fixed) (id : ℕ) (v 
           let u : SlotView T = Defers slot (Puts a (deferring (link_to b) (Word a field))) in
           let may = subst (λ (z : SlotView T). TurnsTo defers fixed id z (λ k. k ≡ u)) (sym is) (parted_are_deferred T defers fixed id slot a b field y x keeps none) in
           let g = turns_are_noted T defers fixed id v u v.did began.Deferral (subst IsOwn (sym is) tt) tt (inl (ap open_at (sym is))) may s h at unlent in
-          (g.0, g.1, g.2, g.3, (subst (λ (z : SlotView T). IsPutting defers z g.0.knows) (sym is) (field, keeps, g.4.0), (g.4.1, g.4.2, g.4.3)))
+          (g.0, g.1, g.2, g.3, (subst (λ (z : SlotView T). IsPutting defers z g.0.knows) (sym is) (field, keeps, g.4.0), g.4.1, g.4.2, g.4.3))
 
       module _ (field : ℕ) where
         abbrev c : Defer
@@ -199,8 +199,8 @@ module _ {T : Type 0} (v u w : Noted T) (slot a field b head word : ℕ) (r : Re
   pub noted_still : v.knows ≡ putting slot a field b (Links head) → u.knows ≡ putting slot a field b (Pushes head)
       → (u.did ≡ deed v.knows v.did (Store (Entry b NEXT) head) Stored) × (u.began ≡ v.began) × (u.guards ≡ v.guards)
       → (w.did ≡ deed u.knows u.did (Exchange (Word a field) head word) (Exchanged r)) × (w.began ≡ u.began) × (w.guards ≡ u.guards) → SameNotes v w
-  noted_still is then one two = (
-    two.0 ∙ ap (λ (k : SlotView T). deed k u.did (Exchange (Word a field) head word) (Exchanged r)) then ∙ one.0 ∙ ap (λ (k : SlotView T). deed k v.did (Store (Entry b NEXT) head) Stored) is,
+  noted_still is now one two = (
+    two.0 ∙ ap (λ (k : SlotView T). deed k u.did (Exchange (Word a field) head word) (Exchanged r)) now ∙ one.0 ∙ ap (λ (k : SlotView T). deed k v.did (Store (Entry b NEXT) head) Stored) is,
     two.1 ∙ one.1,
     two.2 ∙ one.2,
   )
@@ -224,18 +224,21 @@ module _ {T : Type 0} (slot a b : ℕ) (w : Noted T) where
   pub come_as : (came other : Came) → came ≡ other → IsCome slot a b w came → IsCome slot a b w other
   come_as came other is so = subst (IsCome slot a b w) is so
 
+third : (p q : ℕ × Bool × ℕ) → Some p ≡ Some q → p.2 ≡ q.2
+third p q e = ap (λ (x : ℕ × Bool × ℕ). x.2) (same_some p q e)
+
 -- ---- who stands so
 module _ {T : Type 0} (t k : ℕ) where
   pub seen_stands : (v : SlotView T) → v ≡ Inside t (Seen k) → k ≢ 0 → stands_so v ≡ Some (t, true, k)
   seen_stands v is some = ap stands_so is ∙ rw (ne_eqb k 0 some) refl
 
   seen_of : (has : Has T) → IsLooking has → stands_so (Inside t has) ≡ Some (t, true, k) → k ≢ 0 → Inside t has ≡ Inside t (Seen k)
-  seen_of Nothing looks e some = absurd (some (cc e))
+  seen_of Nothing looks e some = absurd (some (sym (third (t, true, 0) (t, true, k) e)))
   seen_of (Seen b) looks e some = by (b == 0) e
     where
       by : (y : Bool) → (if y then None else Some (t, true, b)) ≡ Some (t, true, k) → Inside t (Seen b) ≡ Inside t (Seen k)
       by true f = absurd (cc f)
-      by false f = ap (λ (n : ℕ). Inside t (Seen n)) (cc f)
+      by false f = ap (λ (n : ℕ). Inside t (Seen n)) (third (t, true, b) (t, true, k) f)
   seen_of _ looks e some = absurd looks
 
   pub stands_seen : (v : SlotView T) → stands_so v ≡ Some (t, true, k) → k ≢ 0 → v ≡ Inside t (Seen k)
@@ -245,8 +248,8 @@ module _ {T : Type 0} (t k : ℕ) where
 pub made_seen : {T : Type 0} (b : ℕ) (x : T) (a : ℕ) → a ≢ 0 → made_beside b x a ≡ Both b x a
 made_seen b x a some = rw (ne_eqb a 0 some) refl
 
-pub seen_some : {T : Type 0} (a : ℕ) → a ≢ 0 → Seen {T = T} a ≡ seen_as a
-seen_some a some = rw (ne_eqb a 0 some) refl
+pub seen_some : (T : Type 0) (a : ℕ) → a ≢ 0 → ◌≡◌ {A = Has T} (Seen a) (seen_as a)
+seen_some T a some = rw (ne_eqb a 0 some) refl
 
 -- ---- what was done at a root, if a block was there
 module _ {T : Type 0} (d : Deed T) (root old : ℕ) where

@@ -23,7 +23,7 @@ returns-in-Ok-clause-over g c =
 pub returns-in-Err-clause-again : goal.returns-in-Err-clause-again
 returns-in-Err-clause-again g c =
     let u = c.store.new.seat in
-    changed_told g.T.Defers.defers u.view.knows c.exchange.new.seat.view.knows c.args._slot c.args.seen c.args.block c.args.field c.args.head c.to.result c.exchange.result c.in-Err.field-0 c.in-Err.is
+    changed_told g.T.Defers.defers u.view.knows c.exchange.new.seat.view.knows c.args._slot c.args.seen c.args.block c.args.field c.args.head c.to.result c.exchange.result c.in-Err.found c.in-Err.is
     (linked_told g.T.Defers.defers c.args.seat.now.view.knows u.view.knows c.args._slot c.args.seen c.args.block c.args.field c.args.head c.requires.puts c.store.ensures.goes.0)
     c.exchange.ensures.goes.0
 

@@ -2,7 +2,7 @@ use Rattle.std.proofs.Common.{refl, ◌∙◌}
 use Rattle.seize_guards.proofs.deferring.puts.Goals as goal
 
 pub loop-init : goal.loop-init
-loop-init g c = (c.requires.puts, (refl, refl, refl), refl, refl, refl)
+loop-init g c = (c.requires.puts, (refl, refl, refl), (refl, refl, refl))
 
 pub pushes-requires-clause-own : goal.pushes-requires-clause-own
 pushes-requires-clause-own g c = c.loop.invariant.2.0 ∙ c.requires.own
@@ -20,6 +20,6 @@ returns-in-Ok-clause-same g c =
 
 pub loop-preserved : goal.loop-preserved
 loop-preserved g c =
-    let notes = c.loop.invariant.1 in let then = c.pushes.ensures.notes in
+    let notes = c.loop.invariant.1 in let now = c.pushes.ensures.notes in
     let same = c.loop.invariant.2 in let still = c.pushes.ensures.same in
-    (c.in-Err.ensures.again, (then.0 ∙ notes.0, then.1 ∙ notes.1, then.2 ∙ notes.2), still.0 ∙ same.0, still.1 ∙ same.1, still.2 ∙ same.2)
+    (c.in-Err.ensures.again, (now.0 ∙ notes.0, now.1 ∙ notes.1, now.2 ∙ notes.2), (still.0 ∙ same.0, still.1 ∙ same.1, still.2 ∙ same.2))

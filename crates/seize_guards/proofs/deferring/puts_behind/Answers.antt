@@ -2,7 +2,7 @@ use Rattle.std.proofs.Common.{refl, sym, ◌∙◌}
 use Rattle.seize_guards.proofs.deferring.puts_behind.Goals as goal
 
 pub begins-head-requires-clause-parts : goal.begins-head-requires-clause-parts
-begins-head-requires-clause-parts g c = let i = c.requires.parts in (i.0, i.1, i.2, c.in-Some.ensures.keeps i.0 i.1 i.2)
+begins-head-requires-clause-parts g c = let i = c.requires.parts in let k = c.in-Some.ensures.keeps i.0 i.1 i.2 in (i.0, i.1, i.2, k.0, k.1)
 
 pub ends-requires-clause-away : goal.ends-requires-clause-away
 ends-requires-clause-away g c = λ e. c.requires.away (sym (c.puts.ensures.same.2 ∙ c.begins-head.ensures.same.2) ∙ e)

@@ -27,7 +27,8 @@ pub returns-clause-parted : goal.returns-clause-parted
 returns-clause-parted g c =
     let s = c.args.seat.now in let i = c.requires.seen in let u = c.part.new.seat in
     let k = taking_of c.args._slot c.args._seen i.0 s.view.knows u.view.knows i.1 c.part.ensures.goes.0 in
-    (k.0, taken_out g.T.Defers.defers u.view.knows c.swap.new.seat.view.knows c.args._slot c.args._seen k.0 i.0 c.args.root c.args.word c.swap.result k.1 c.swap.ensures.goes.0)
+    let t = taken_out g.T.Defers.defers u.view.knows c.swap.new.seat.view.knows c.args._slot c.args._seen k.0 i.0 c.args.root c.args.word c.swap.result k.1 c.swap.ensures.goes.0 in
+    (k.0, t.0, t.1)
 
 pub returns-clause-did : goal.returns-clause-did
 returns-clause-did g c = λ made is.

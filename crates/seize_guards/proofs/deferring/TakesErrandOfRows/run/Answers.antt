@@ -9,7 +9,7 @@ puts_behind-came-requires-clause-away g c = λ e. c.requires.1 (sym c.takes_out-
 pub puts_behind-came-requires-clause-parts : goal.puts_behind-came-requires-clause-parts
 puts_behind-came-requires-clause-parts g c =
     let p = c.takes_out-old.ensures.parted in let block = c.in-Some.ensures.some in
-    (p.0, p.1, p.2 ∙ parted_one c.args.self.slot c.args.self.seen p.0 p.1 c.takes_out-old.result c.in-Some.field-0 block.0 block.2)
+    (p.0, p.1, p.2 ∙ parted_one c.args.self.slot c.args.self.seen p.0 p.1 c.takes_out-old.result c.in-Some.block block.0 block.2)
 
 pub returns-in-None : goal.returns-in-None
 returns-in-None g c =
