@@ -49,7 +49,7 @@ impl Defers for Numbered {
 }
 
 /// The value of a place.
-fn numbered(numbers: &DropCounts, place: usize, list: Option<u64>) -> Option<Numbered> {
+fn of_place(numbers: &DropCounts, place: usize, list: Option<u64>) -> Option<Numbered> {
     let numbers = Arc::try_clone(numbers).ok()?;
     Some(Numbered {
         list,
@@ -65,7 +65,7 @@ fn puts_behind<W: Wait, G: DeferringGuard<Numbered>>(
     numbers: &DropCounts,
     place: usize,
 ) -> bool {
-    match numbered(numbers, place, None) {
+    match of_place(numbers, place, None) {
         Some(value) => match guard.put_behind(rt, 1, value) {
             Ok(waits) => waits,
             Err(_) => false,
@@ -82,7 +82,7 @@ fn puts<G: DeferringGuard<Numbered>>(
     place: usize,
     list: Option<u64>,
 ) -> bool {
-    match numbered(numbers, place, list) {
+    match of_place(numbers, place, list) {
         Some(value) => guard.put(root, value).is_ok(),
         None => false,
     }

@@ -228,10 +228,10 @@ third : (p q : ℕ × Bool × ℕ) → Some p ≡ Some q → p.2 ≡ q.2
 third p q e = ap (λ (x : ℕ × Bool × ℕ). x.2) (same_some p q e)
 
 -- ---- who stands so
-module _ {T : Type 0} (t k : ℕ) where
-  abbrev stood : ℕ → Option (ℕ × Bool × ℕ)
-  stood n = Some (t, true, n)
+abbrev stood : ℕ → ℕ → Option (ℕ × Bool × ℕ)
+stood t n = Some (t, true, n)
 
+module _ {T : Type 0} (t k : ℕ) where
   pub seen_stands : (v : SlotView T) → v ≡ Inside t (Seen k) → k ≢ 0 → stands_so v ≡ Some (t, true, k)
   seen_stands v is some = ap stands_so is ∙ rw (ne_eqb k 0 some) refl
 
@@ -239,7 +239,7 @@ module _ {T : Type 0} (t k : ℕ) where
   seen_of Nothing looks e some = absurd (some (sym (third (t, true, 0) (t, true, k) e)))
   seen_of (Seen b) looks e some = by (b == 0) e
     where
-      by : (y : Bool) → (if y then None else stood b) ≡ stood k → Inside t (Seen b) ≡ Inside t (Seen k)
+      by : (y : Bool) → (if y then None else stood t b) ≡ stood t k → Inside t (Seen b) ≡ Inside t (Seen k)
       by true f = absurd (cc f)
       by false f = ap (λ (n : ℕ). Inside t (Seen n)) (third (t, true, b) (t, true, k) f)
   seen_of _ looks e some = absurd looks
@@ -247,21 +247,12 @@ module _ {T : Type 0} (t k : ℕ) where
   pub stands_seen : (v : SlotView T) → stands_so v ≡ Some (t, true, k) → k ≢ 0 → v ≡ Inside t (Seen k)
   stands_seen v e some = let i = is_inside t k v e in i.2 ∙ seen_of i.0 i.1 (ap stands_so (sym i.2) ∙ e) some
 
--- what is seen then is what was seen, or nothing
-pub small_still : (r k : ℕ) → (r ≡ 0) ⊎ (r ≡ k) → k < 2 ^ 53 → r < 2 ^ 53
-small_still r k (inl none) lt = omega (arith, none)
-small_still r k (inr same) lt = omega (arith, same, lt)
-
 -- what was made beside a block that was seen
 pub made_seen : {T : Type 0} (b : ℕ) (x : T) (a : ℕ) → a ≢ 0 → made_beside b x a ≡ Both b x a
 made_seen b x a some = rw (ne_eqb a 0 some) refl
 
 pub seen_some : (T : Type 0) (a : ℕ) → a ≢ 0 → ◌≡◌ {A = Has T} (Seen a) (seen_as a)
 seen_some T a some = rw (ne_eqb a 0 some) refl
-
--- the word that links to a block names it
-pub link_of : (b word : ℕ) → b < 2 ^ 53 → word ≡ link_to b % 2 ^ 64 → block_in word ≡ b
-link_of b word lt link = ap block_in (link ∙ whole_link b lt) ∙ block_of_link b
 
 -- ---- what was done at a root, if a block was there
 module _ {T : Type 0} (d : Deed T) (root old : ℕ) where

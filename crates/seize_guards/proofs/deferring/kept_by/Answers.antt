@@ -15,5 +15,7 @@ value-requires-2-clause-shown g c =
 pub returns-in-None : goal.returns-in-None
 returns-in-None g c =
     let s = c.args.seat.now in
-    record { keeps = keeps_if g.T.Defers.defers c.args.blocks.now.words.fixed s.id s.view c.args._slot c.args.seen c.args.block c.deferred-field.result c.value.result.now c.value-2.result.now
-    c.deferred-field.ensures (sym c.deferred.ensures ∙ c.in-None.is) c.value.ensures c.value-2.ensures }
+    record {
+      keeps = keeps_if g.T.Defers.defers c.args.blocks.now.words.fixed s.id s.view c.args._slot c.args.seen c.args.block c.deferred-field.result c.value.result.now c.value-2.result.now
+          c.deferred-field.ensures (sym c.deferred.ensures ∙ c.in-None.is) c.value.ensures c.value-2.ensures;
+    }
