@@ -12,9 +12,9 @@ use std::sync::Wait;
 use std::sync::atomic::Ordering::SeqCst;
 use std::test::Fail;
 
-/// Batches of five blocks, and two roots.
+/// Batches of one block, and two roots.
 const TWO: Fixed = Fixed {
-    batch_size: 5,
+    batch_size: 1,
     roots: 2,
     chains: 0,
 };
@@ -111,7 +111,7 @@ fn comes_back<W: Wait>(
     numbers: &DropCounts,
     own: bool,
 ) -> (bool, u64)
-    requires fixed { blocks.now.words.fixed ≡ record { batch_size = 5; roots = 2; chains = 0 } }
+    requires fixed { blocks.now.words.fixed ≡ record { batch_size = 1; roots = 2; chains = 0 } }
 {
     if own {
         let Ok(mut guard) = OwnedGuard::enter(blocks, &TWO) else {

@@ -239,7 +239,7 @@ module _ {T : Type 0} (t k : ℕ) where
   seen_of Nothing looks e some = absurd (some (sym (third (t, true, 0) (t, true, k) e)))
   seen_of (Seen b) looks e some = by (b == 0) e
     where
-      by : (y : Bool) → (if y then None else stood t b) ≡ stood t k → Inside t (Seen b) ≡ Inside t (Seen k)
+      by : (y : Bool) → (if y then None else stood t b) ≡ stood t k → ◌≡◌ {A = SlotView T} (Inside t (Seen b)) (Inside t (Seen k))
       by true f = absurd (cc f)
       by false f = ap (λ (n : ℕ). Inside t (Seen n)) (third (t, true, b) (t, true, k) f)
   seen_of _ looks e some = absurd looks

@@ -155,7 +155,8 @@ fn swaps_behind<T: Defers + Drop, W: Wait>(
 impl<'r, 'a, T: Defers + Drop, R: Receiver<T>> DeferringGuard<T>
     for LocalGuard<'r, 'a, T, OfRows, R> {
     fn clear_behind<W: Wait>(&mut self, rt: &W, root: u64) -> bool {
-        if !has_seen(&self.registration.stay, root) {
+        let registration = &*self.registration;
+        if !has_seen(&registration.stay, root) {
             self.clear(root);
             return false;
         }
@@ -164,7 +165,8 @@ impl<'r, 'a, T: Defers + Drop, R: Receiver<T>> DeferringGuard<T>
     }
 
     fn put_behind<W: Wait>(&mut self, rt: &W, root: u64, value: T) -> Result<bool, T> {
-        if !has_seen(&self.registration.stay, root) {
+        let registration = &*self.registration;
+        if !has_seen(&registration.stay, root) {
             self.put(root, value)?;
             return Ok(false);
         }
