@@ -12,8 +12,10 @@ use Rattle.seize_guards.proofs.behind.swaps_behind.Goals as goal
 pub make_beside-requires : goal.make_beside-requires
 make_beside-requires g c =
     let s = c.args.stay.now in
-    stands_seen s.slot s.seen s.caller.seat.view.knows (s.stands ∙ ap (λ (y : Bool). Some (s.slot, y, s.seen)) c.requires.may.0) c.requires.may.1
-    ∙ ap (λ (h : Has g.row.T.Denot). Inside s.slot h) (seen_some g.row.T.Denot s.seen c.requires.may.1)
+    record {
+      inside = stands_seen s.slot s.seen s.caller.seat.view.knows (s.stands ∙ ap (λ (y : Bool). Some (s.slot, y, s.seen)) c.requires.may.0) c.requires.may.1
+          ∙ ap (λ (h : Has g.row.T.Denot). Inside s.slot h) (seen_some g.row.T.Denot s.seen c.requires.may.1);
+    }
 
 pub takes-taken-requires-clause-seen : goal.takes-taken-requires-clause-seen
 takes-taken-requires-clause-seen g c =
