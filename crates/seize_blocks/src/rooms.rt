@@ -1,5 +1,5 @@
 //! Buckets of slots: how a bucket comes to have its words, and where the words of a slot behind the first bucket lie.
-ghost use Rattle.std.specs.Prelude.{◌≡◌, ◌+◌, ◌<◌, ◌≤◌, ◌^◌};
+ghost use Rattle.std.specs.Prelude.{◌≡◌, ◌+◌, ◌<◌, ◌≤◌, ◌^◌, Ok};
 ghost use denote.RawPtr.{InBlock};
 ghost use Rattle.seize_words.specs.OneMemory.Op.{Room, Roomed};
 ghost use Rattle.seize_words.specs.declared.at.At.TheVariants.{Slot};
@@ -18,13 +18,14 @@ use std::ptr::NonNull;
 
 impl<T, R: Rule<T>> Blocks<T, R> {
     /// Makes the words of a bucket of slots where they are not there yet. Where there is no memory for them the answer is `Memory`, and so it is for a bucket behind
-    /// the 32 that follow the first one.
+    /// the 32 that follow the first one; that one always has them.
     pub fn room(&self, seat: &mut Seat<T, R>, bucket: u64) -> Result<(), Fault>
         requires own { seat.old.base ≡ self.now.words.id.views_name }
         requires may { Allows (R.holds self.now.words.fixed) R.keeps seat.old.id seat.old.view (Room bucket) (R.then seat.old.view (Room bucket)) }
         ensures same { (seat.new.base ≡ seat.old.base) × (seat.new.id ≡ seat.old.id) }
         ensures errand { seat.new.away ≡ seat.old.away }
         ensures goes { R.then seat.old.view (Room bucket) (Roomed result) seat.new.view }
+        ensures first { bucket ≡ 0 → result ≡ Ok tt }
     {
         if bucket == 0 {
             self.words.room(seat, bucket);

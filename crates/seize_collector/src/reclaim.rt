@@ -4,37 +4,36 @@ ghost use Rattle.seize.specs.declared.rows.reclaim_all.Reclaiming.TheVariants.{O
 ghost use Rattle.seize.specs.declared.rows.reclaim_all.ReclaimAll.{ReclaimAll};
 ghost use Rattle.seize.specs.declared.rows.register.Registering.TheVariants.{Begin};
 ghost use Rattle.seize_seats.specs.Seats.Owned.{IsLike};
-ghost use Rattle.seize_views.specs.Views.Begun.{seeker_at};
-ghost use Rattle.seize_collector.specs.declared.alone.Alone.TheVariants.{Registers};
 ghost use Rattle.seize_collector.specs.Renews.Emptied.{IsEmptied};
-ghost use Rattle.seize_collector.specs.Empties.Emptying.{IsUnderWay};
+ghost use Rattle.seize_collector.specs.Empties.Emptying.{IsUnderWay, IsSeeking};
 
+use crate::one::One;
 use crate::sole::Sole;
 use crate::{OfOne, one_acts_alone};
 use core::mem::replace_with;
-use seize::rows::Defers;
+use seize::rows::{Defers, ReclaimAll};
 use seize_blocks::{Blocks, Home, Seat};
 use seize_views::{Fixed, OfRows};
 
-/// Reclaims all that waits, by a seat that has just come and has the memory to itself. It answers the seat.
-fn acts<T: Defers + Drop>(
-    blocks: &Blocks<T, OfOne>,
-    seat: Seat<T, OfOne>,
-    batch_size: u64,
-) -> Seat<T, OfOne>
+/// Reclaims all that waits, by a seat that has the memory to itself, by this. It answers the seat.
+pub fn acts<T: Defers + Drop, R: One<T>>(
+    blocks: &Blocks<T, R>,
+    seat: Seat<T, R>,
+    all: ReclaimAll,
+) -> Seat<T, R>
     requires own { seat.base ≡ blocks.now.words.id.views_name }
-    requires sized { blocks.now.words.fixed.batch_size ≡ batch_size }
-    requires begins { seat.view ≡ Registers (seeker_at 0 Begin) batch_size }
+    requires sized { blocks.now.words.fixed.batch_size < 2 ^ 64 }
+    requires begins { IsSeeking 0 Begin blocks.now.words.fixed.batch_size (R.acts seat.view) × (R.all seat.view ≡ all) }
     ensures own { result.base ≡ blocks.now.words.id.views_name }
-    ensures sized { batch_size < 2 ^ 64 }
-    ensures over { (c : ReclaimAll) × (c.stands ≡ Over) × IsUnderWay c result.view }
+    ensures over { (c : ReclaimAll) × (c.stands ≡ Over) × IsUnderWay c (R.acts result.view) }
 {
+    let mut row = all;
     let mut sole = Sole {
         blocks,
         seat,
         near: 0,
     };
-    sole.reclaims(batch_size);
+    sole.reclaims(&mut row);
     let Sole {
         blocks: _,
         seat,
@@ -52,7 +51,8 @@ fn emptied<T: Defers + Drop>(home: Home<T, OfRows>, fixed: &Fixed) -> (Home<T, O
 {
     one_acts_alone::<T>();
     let (home, seat) = home.alone::<OfOne>(fixed);
-    let seat = acts(&home.blocks, seat, fixed.batch_size);
+    let all = ReclaimAll::reclaim_all(fixed.batch_size, 0);
+    let seat = acts(&home.blocks, seat, all);
     (home.used::<OfRows>(seat, fixed), ())
 }
 

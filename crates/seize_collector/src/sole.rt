@@ -4,16 +4,15 @@ ghost use Rattle.seize.specs.declared.states.TheConstants.{LAST_SLOT};
 ghost use Rattle.seize.specs.declared.rows.reclaim_all.ReclaimAll.{ReclaimAll};
 ghost use Rattle.seize.specs.declared.rows.reclaim_all.Reclaiming.TheVariants.{Over};
 ghost use Rattle.seize.specs.declared.rows.register.Registering.TheVariants.{Begin, Look, Take};
-ghost use Rattle.seize.specs.ReclaimAll.{none_left};
 ghost use Rattle.seize_views.specs.Views.Begun.{seeker_at};
-ghost use Rattle.seize_collector.specs.Renews.One.{Passes};
-ghost use Rattle.seize_collector.specs.Renews.Rule.{all_of, over_of};
+ghost use Rattle.seize_collector.specs.Empties.Asked.{HasPassed};
 ghost use Rattle.seize_collector.specs.declared.alone.Alone.TheVariants.{Registers};
-ghost use Rattle.seize_collector.specs.Empties.Emptying.{IsUnderWay, Seeks, leave_passes, settle_passes, passes, left_of};
+ghost use Rattle.seize_collector.specs.Empties.Emptying.{IsUnderWay, Seeks, IsSeeking, leave_passes, settle_passes, passes, left_of};
 
-use crate::{OfOne, Passing, one_acts_alone};
+use crate::one::One;
+use crate::rule::Passing;
 use seize::rows::{
-    Defers, Leave, Leaving, NoneLeft, ReclaimAll, Reclaiming, Settle, Settled, Settling,
+    Defers, Leave, Leaving, ReclaimAll, Reclaiming, Settle, Settled, Settling,
     needed_bucket,
 };
 use seize::states::{FREE, HEAD, IDLE, LAST_SLOT, NEVER};
@@ -23,9 +22,9 @@ use seize_words::{At, Fault, Look, Memory};
 mod memory;
 
 /// The one who has the memory to himself, with his seat. It is a memory for the machines that he steps.
-pub(crate) struct Sole<'a, T: Defers> {
-    pub(crate) blocks: &'a Blocks<T, OfOne>,
-    pub(crate) seat: Seat<T, OfOne>,
+pub(crate) struct Sole<'a, T: Defers, R: One<T>> {
+    pub(crate) blocks: &'a Blocks<T, R>,
+    pub(crate) seat: Seat<T, R>,
     pub(crate) near: u64,
     ghost own: { seat.base ≡ blocks.now.words.id.views_name },
     ghost sized: { blocks.now.words.fixed.batch_size < 2 ^ 64 },
@@ -68,38 +67,37 @@ fn passes(row: &ReclaimAll) -> bool
     }
 }
 
-impl<'a, T: Defers> Sole<'a, T> {
-    /// Begins to look for a slot, and tells whether slots have words.
-    fn begins(&mut self) -> bool
-        requires begins { self.old.seat.view ≡ Registers (seeker_at 0 Begin) self.old.blocks.now.words.fixed.batch_size }
-        ensures there { result ≡ true → Seeks self.old.blocks.now.words.fixed.batch_size 0 self.new.seat.view }
-        ensures none { result ≡ false → IsUnderWay (over_of self.old.blocks.now.words.fixed.batch_size) self.new.seat.view }
+impl<'a, T: Defers, R: One<T>> Sole<'a, T, R> {
+    /// Begins to look for a slot. Slots have words from then on.
+    fn begins(&mut self, all: &ReclaimAll)
+        requires begins { IsSeeking 0 Begin self.old.blocks.now.words.fixed.batch_size (R.acts self.old.seat.view) × (R.all self.old.seat.view ≡ all.now) }
+        ensures seeks { Seeks all.now self.old.blocks.now.words.fixed.batch_size 0 (R.acts self.new.seat.view) (R.all self.new.seat.view) }
         ensures blocks { self.new.blocks ≡ self.old.blocks }
     {
-        one_acts_alone::<T>();
-        self.room(0).is_ok()
+        R::acts_alone();
+        let _ = self.blocks.room(&mut self.seat, 0);
     }
 
     /// Takes a slot whose head was seen so, and tells whether registering has ended.
-    fn occupies(&mut self, slot: u64, seen: u64) -> bool
-        requires { self.old.seat.view ≡ Registers (seeker_at slot (Take seen)) self.old.blocks.now.words.fixed.batch_size }
-        ensures ends { result ≡ true → IsUnderWay (all_of self.old.blocks.now.words.fixed.batch_size) self.new.seat.view }
-        ensures on { result ≡ false → Seeks self.old.blocks.now.words.fixed.batch_size (slot + 1) self.new.seat.view }
+    fn occupies(&mut self, all: &ReclaimAll, slot: u64, seen: u64) -> bool
+        requires { IsSeeking slot (Take seen) self.old.blocks.now.words.fixed.batch_size (R.acts self.old.seat.view) × (R.all self.old.seat.view ≡ all.now) }
+        ensures ends { result ≡ true → IsUnderWay all.now (R.acts self.new.seat.view) }
+        ensures on { result ≡ false → Seeks all.now self.old.blocks.now.words.fixed.batch_size (slot + 1) (R.acts self.new.seat.view) (R.all self.new.seat.view) }
         ensures blocks { self.new.blocks ≡ self.old.blocks }
     {
-        one_acts_alone::<T>();
+        R::acts_alone();
         self.exchange(At::Slot(slot, HEAD), seen, IDLE).is_ok()
     }
 
     /// Tries one slot, and tells whether registering has ended.
-    fn tries(&mut self, slot: u64) -> bool
+    fn tries(&mut self, all: &ReclaimAll, slot: u64) -> bool
         requires slot { slot < LAST_SLOT + 1 }
-        requires seeks { self.old.seat.view ≡ Registers (seeker_at slot Look) self.old.blocks.now.words.fixed.batch_size }
-        ensures ends { result ≡ true → IsUnderWay (all_of self.old.blocks.now.words.fixed.batch_size) self.new.seat.view }
-        ensures on { result ≡ false → Seeks self.old.blocks.now.words.fixed.batch_size (slot + 1) self.new.seat.view }
+        requires seeks { IsSeeking slot Look self.old.blocks.now.words.fixed.batch_size (R.acts self.old.seat.view) × (R.all self.old.seat.view ≡ all.now) }
+        ensures ends { result ≡ true → IsUnderWay all.now (R.acts self.new.seat.view) }
+        ensures on { result ≡ false → Seeks all.now self.old.blocks.now.words.fixed.batch_size (slot + 1) (R.acts self.new.seat.view) (R.all self.new.seat.view) }
         ensures blocks { self.new.blocks ≡ self.old.blocks }
     {
-        one_acts_alone::<T>();
+        R::acts_alone();
         let seen = self.load(At::Slot(slot, HEAD));
         if seen != NEVER && seen != FREE {
             return false;
@@ -109,50 +107,46 @@ impl<'a, T: Defers> Sole<'a, T> {
                 return true;
             }
         }
-        self.occupies(slot, seen)
+        self.occupies(all, slot, seen)
     }
 
-    /// Takes a slot, if one can be taken, and tells whether slots have words.
-    fn registers(&mut self) -> bool
-        requires begins { self.old.seat.view ≡ Registers (seeker_at 0 Begin) self.old.blocks.now.words.fixed.batch_size }
-        ensures there { result ≡ true → IsUnderWay (all_of self.old.blocks.now.words.fixed.batch_size) self.new.seat.view }
-        ensures none { result ≡ false → IsUnderWay (over_of self.old.blocks.now.words.fixed.batch_size) self.new.seat.view }
+    /// Takes a slot, if one can be taken.
+    fn registers(&mut self, all: &ReclaimAll)
+        requires begins { IsSeeking 0 Begin self.old.blocks.now.words.fixed.batch_size (R.acts self.old.seat.view) × (R.all self.old.seat.view ≡ all.now) }
+        ensures ends { IsUnderWay all.now (R.acts self.new.seat.view) }
         ensures blocks { self.new.blocks ≡ self.old.blocks }
     {
-        if !self.begins() {
-            return false;
-        }
+        self.begins(all);
         for slot in 0..LAST_SLOT + 1 {
-            if self.tries(slot) {
-                return true;
+            if self.tries(all, slot) {
+                return;
             }
         }
-        true
     }
 
     /// A step of the machine that makes no operation is a turn of the seat first.
     fn passes_by(&mut self, row: &ReclaimAll)
-        requires under { IsUnderWay row.now self.old.seat.view }
+        requires under { IsUnderWay row.now (R.acts self.old.seat.view) }
         requires not { row.now.stands ≢ Over }
         requires passes { passes row.now ≡ true }
-        ensures passed { Passes T.defers none_left self.old.seat.view self.new.seat.view }
+        ensures passed { HasPassed R.acts T.defers R.left self.old.seat.view self.new.seat.view }
         ensures blocks { self.new.blocks ≡ self.old.blocks }
     {
-        one_acts_alone::<T>();
-        self.blocks.turn::<Passing<T>>(&mut self.seat);
+        R::acts_alone();
+        self.blocks.turn::<Passing<T, R>>(&mut self.seat);
     }
 
     /// Takes the next step, which makes no operation.
     fn skips(&mut self, row: &mut ReclaimAll) -> Option<T>
-        requires under { IsUnderWay row.old self.old.seat.view }
+        requires under { IsUnderWay row.old (R.acts self.old.seat.view) }
         requires not { row.old.stands ≢ Over }
         requires passes { passes row.old ≡ true }
-        ensures under { IsUnderWay row.new self.new.seat.view }
-        ensures falls { left_of self.new.seat.view < left_of self.old.seat.view }
+        ensures under { IsUnderWay row.new (R.acts self.new.seat.view) }
+        ensures falls { left_of (R.acts self.new.seat.view) < left_of (R.acts self.old.seat.view) }
         ensures blocks { self.new.blocks ≡ self.old.blocks }
     {
         self.passes_by(row);
-        match row.step_by::<T, NoneLeft, _>(self) {
+        match row.step_by::<T, R, _>(self) {
             Settled::Gave(value) => Some(value),
             _ => None,
         }
@@ -160,15 +154,15 @@ impl<'a, T: Defers> Sole<'a, T> {
 
     /// Takes the next step, which makes an operation, and answers the value that was reclaimed, if one was.
     fn makes(&mut self, row: &mut ReclaimAll) -> Option<T>
-        requires under { IsUnderWay row.old self.old.seat.view }
+        requires under { IsUnderWay row.old (R.acts self.old.seat.view) }
         requires not { row.old.stands ≢ Over }
         requires makes { passes row.old ≡ false }
-        ensures under { IsUnderWay row.new self.new.seat.view }
-        ensures falls { left_of self.new.seat.view < left_of self.old.seat.view }
+        ensures under { IsUnderWay row.new (R.acts self.new.seat.view) }
+        ensures falls { left_of (R.acts self.new.seat.view) < left_of (R.acts self.old.seat.view) }
         ensures blocks { self.new.blocks ≡ self.old.blocks }
     {
-        one_acts_alone::<T>();
-        match row.step_by::<T, NoneLeft, _>(self) {
+        R::acts_alone();
+        match row.step_by::<T, R, _>(self) {
             Settled::Gave(value) => Some(value),
             _ => None,
         }
@@ -176,10 +170,10 @@ impl<'a, T: Defers> Sole<'a, T> {
 
     /// Takes the next step, and answers the value that was reclaimed, if one was.
     fn steps(&mut self, row: &mut ReclaimAll) -> Option<T>
-        requires under { IsUnderWay row.old self.old.seat.view }
+        requires under { IsUnderWay row.old (R.acts self.old.seat.view) }
         requires not { row.old.stands ≢ Over }
-        ensures under { IsUnderWay row.new self.new.seat.view }
-        ensures falls { left_of self.new.seat.view < left_of self.old.seat.view }
+        ensures under { IsUnderWay row.new (R.acts self.new.seat.view) }
+        ensures falls { left_of (R.acts self.new.seat.view) < left_of (R.acts self.old.seat.view) }
         ensures blocks { self.new.blocks ≡ self.old.blocks }
     {
         if passes(row) {
@@ -190,11 +184,11 @@ impl<'a, T: Defers> Sole<'a, T> {
     }
 }
 
-impl<'a, T: Defers + Drop> Sole<'a, T> {
+impl<'a, T: Defers + Drop, R: One<T>> Sole<'a, T, R> {
     /// Goes on to the end. A value that is reclaimed is dropped.
     fn ends(&mut self, row: &mut ReclaimAll)
-        requires under { IsUnderWay row.old self.old.seat.view }
-        ensures under { IsUnderWay row.new self.new.seat.view }
+        requires under { IsUnderWay row.old (R.acts self.old.seat.view) }
+        ensures under { IsUnderWay row.new (R.acts self.new.seat.view) }
         ensures over { row.new.stands ≡ Over }
         ensures blocks { self.new.blocks ≡ self.old.blocks }
     {
@@ -203,17 +197,13 @@ impl<'a, T: Defers + Drop> Sole<'a, T> {
         }
     }
 
-    /// Takes a slot, and reclaims all. Values that are reclaimed are dropped.
-    pub(crate) fn reclaims(&mut self, batch_size: u64)
-        requires begins { self.old.seat.view ≡ Registers (seeker_at 0 Begin) batch_size }
-        requires sized { self.old.blocks.now.words.fixed.batch_size ≡ batch_size }
-        ensures over { (c : ReclaimAll) × (c.stands ≡ Over) × IsUnderWay c self.new.seat.view }
+    /// Takes a slot, and reclaims all by this. Values that are reclaimed are dropped.
+    pub(crate) fn reclaims(&mut self, row: &mut ReclaimAll)
+        requires begins { IsSeeking 0 Begin self.old.blocks.now.words.fixed.batch_size (R.acts self.old.seat.view) × (R.all self.old.seat.view ≡ row.old) }
+        ensures over { (c : ReclaimAll) × (c.stands ≡ Over) × IsUnderWay c (R.acts self.new.seat.view) }
         ensures blocks { self.new.blocks ≡ self.old.blocks }
     {
-        let mut row = ReclaimAll::reclaim_all(batch_size, 0);
-        if !self.registers() {
-            row.stands = Reclaiming::Over;
-        }
-        self.ends(&mut row);
+        self.registers(row);
+        self.ends(row);
     }
 }
