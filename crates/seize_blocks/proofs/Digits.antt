@@ -1,9 +1,10 @@
 -- Where the strip of a number begins: at the power of two with as many binary digits, as the first strip has a power of two of numbers.
-use Rattle.std.specs.Prelude.{◌≡◌, ℕ, suc, ◌+◌, ◌-◌, ◌*◌, ◌%◌, ◌<◌, ◌≤◌, ◌^◌, ◌⊎◌}
+use Rattle.std.specs.Prelude.{◌≡◌, ℕ, suc, ◌+◌, ◌-◌, ◌*◌, ◌%◌, ◌<◌, ◌≤◌, ◌^◌, ◌⊎◌, bit_xor}
 use Rattle.std.specs.Int.Count.{count_leading_zeros}
-use Rattle.std.proofs.Common.{inr, inl, arith, ap, sym, ◌∙◌, pow-suc, pow-add, subst}
+use Rattle.std.proofs.Common.{inr, inl, arith, ap, sym, ◌∙◌, pow-suc, pow-add, subst, refl}
 use Rattle.std.proofs.lemmas.Bool.{cases_lt}
-use Rattle.std.proofs.lemmas.Nat.{leading_top, shl_whole}
+use Rattle.std.proofs.lemmas.Grind.{common_steps}
+use Rattle.std.proofs.lemmas.Nat.{leading_top, shl_whole, xor_block}
 use Rattle.std.proofs.Math.Pow.{pow_mono}
 use Rattle.seize_atoms.specs.Placed.{IsBehind}
 
@@ -35,6 +36,15 @@ some_power d = let none : 0 ≤ d = omega arith in let p = pow_mono none in omeg
 pub is_power : (d : ℕ) → d ≤ 32 → ((1 * 2 ^ d) % 2 ^ 64 ≡ 2 ^ d) × (0 < (1 * 2 ^ d) % 2 ^ 64) × ((1 * 2 ^ d) % 2 ^ 64 ≤ 2 ^ 32)
 is_power d few = let is = whole d (omega (arith, few)) in let some = some_power d in let most = pow_mono few in (is, omega (arith, is, some), omega (arith, is, most))
 
+-- what is left of a number without its highest digit
+without : (n top : ℕ) → 2 ^ top ≤ n → n < 2 ^ suc top → bit_xor n (2 ^ top) ≡ n - 2 ^ top
+without n top low high = let twice = pow-suc 2 top in let left = n - 2 ^ top in let parts : 1 * 2 ^ top + left ≡ n = omega (arith, low) in
+    let one : 1 * 2 ^ top + 0 ≡ 2 ^ top = omega arith in let none : bit_xor left 0 ≡ left = grind (arith, common_steps) in
+    let both : bit_xor 1 1 ≡ 0 = refl in let block = xor_block top 1 1 left 0 (omega (arith, low, high, twice)) (omega (arith, low, high, twice)) in
+    let rest : bit_xor 1 1 * 2 ^ top + bit_xor left 0 ≡ left = subst (λ (m : ℕ). m * 2 ^ top + bit_xor left 0 ≡ left) (sym both) (omega (arith, none)) in
+    ap (λ (m : ℕ). bit_xor m (2 ^ top)) (sym parts) ∙ ap (λ (m : ℕ). bit_xor (1 * 2 ^ top + left) m) (sym one)
+    ∙ block ∙ rest
+
 module _ (least digits index : ℕ) (even : least ≡ 2 ^ digits) (far : least ≤ index) (small : index < 2 ^ 32) where
   top : HasTop index (top_of index)
   top = let some = some_power digits in has_top index (omega (arith, some, even, far)) small
@@ -58,3 +68,8 @@ module _ (least digits index : ℕ) (even : least ≡ 2 ^ digits) (far : least �
       ap (λ (k : ℕ). 2 ^ k) (sym sum) ∙ pow-add 2 digits (top_of index - digits) ∙ ap (λ (k : ℕ). k * 2 ^ (top_of index - digits)) (sym even) in
       let twice : 2 ^ suc (top_of index) ≡ 2 ^ top_of index * 2 = pow-suc 2 (top_of index) in let low = top.1 in let high = top.2 in let less = few in let is = whole (top_of index) (omega (arith, less)) in
       (is ∙ parts, omega (arith, is, low), omega (arith, is, twice, high), omega (arith, less))
+
+  -- and the digits that follow are its index there
+  pub follow : bit_xor index ((1 * 2 ^ top_of index) % 2 ^ 64) ≡ index - (1 * 2 ^ top_of index) % 2 ^ 64
+  follow = let less = few in let is = whole (top_of index) (omega (arith, less)) in
+      subst (λ (k : ℕ). bit_xor index k ≡ index - k) (sym is) (without index (top_of index) top.1 top.2)

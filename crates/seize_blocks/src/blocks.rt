@@ -25,6 +25,7 @@ pub struct Blocks<T, R: Rule<T>> {
     pub words: StripWords<T, R>,
     pub(crate) roots: u64,
     pub(crate) count: u64,
+    pub(crate) last: u64,
     pub(crate) digits: u64,
     pub(crate) skip: u64,
     pub(crate) values: ValuePlaces<T>,
@@ -33,6 +34,7 @@ pub struct Blocks<T, R: Rule<T>> {
     ghost lies: { (words.id.values ≡ values.at) × (words.id.doors ≡ doors.at) },
     ghost strip: { IsFirst words.words words.id × (words.id.size ≡ count) },
     ghost few: { (roots ≤ 65536) × (0 < count) × (count ≤ 2 ^ 32) },
+    ghost ends: { last + 1 ≡ count },
     ghost even: { count ≡ 2 ^ digits },
     ghost skips: { skip ≡ (roots + roots + 32) * 16 },
 }

@@ -114,7 +114,7 @@ impl<T, R: Rule<T>> Blocks<T, R> {
         if number < self.count {
             return Some(self.first_part());
         }
-        let (door, first) = self.door_of(number);
+        let (door, first, _) = self.door_of(number);
         if first > MOST / 2 {
             return None;
         }

@@ -187,15 +187,17 @@ impl<T, R: Rule<T>> Blocks<T, R> {
         index * 5 + self.skip
     }
 
-    /// Behind which door the strip of a number is, and how many numbers come before those of the strip: those whose highest binary digit is the number's are
-    /// one strip.
+    /// Behind which door the strip of a number is, how many numbers come before those of the strip, and the number's index among these: those whose highest
+    /// binary digit is the number's are one strip, and the digits that follow are the index.
     #[inline(always)]
-    pub(crate) fn door_of(&self, index: u64) -> (u64, u64)
+    pub(crate) fn door_of(&self, index: u64) -> (u64, u64, u64)
         requires { (self.now.words.id.least ≤ index) × (index < 2 ^ 32) }
-        ensures { IsBehind self.now.words.id.least index result.0 result.1 }
+        ensures door { IsBehind self.now.words.id.least index result.0 result.1 }
+        ensures index { result.2 ≡ index - result.1 }
     {
         let top = 63 - index.leading_zeros();
-        (top as u64 - self.digits, 1 << top)
+        let first = 1 << top;
+        (top as u64 - self.digits, first, index ^ first)
     }
 
     /// Where a block of the first strip is.
@@ -232,7 +234,7 @@ impl<T, R: Rule<T>> Blocks<T, R> {
         ensures words { (result.first ≡ result.index * 5 + result.strip.id.skip) × (result.first + 4 < 2 ^ 60) }
     {
         let index = block.wrapping_sub(1);
-        if index < self.count {
+        if index <= self.last {
             return self.near_spot(index);
         }
         if index >= MOST {
@@ -258,14 +260,13 @@ impl<T, R: Rule<T>> Blocks<T, R> {
         ensures index { IsItsIndex result.strip.id block result.index × (result.index < 2 ^ 32) }
         ensures words { (result.first ≡ result.index * 5 + result.strip.id.skip) × (result.first + 4 < 2 ^ 60) }
     {
-        let (door, first) = self.door_of(block - 1);
+        let (door, first, index) = self.door_of(block - 1);
         let strip = self
             .words
             .find(pass, guard, owner, block, self.doors.at, door);
         let place = places_in(&strip);
         let values = place.at;
         let skip = skip_of::<Kept<T>>(first as usize) as u64;
-        let index = block - 1 - first;
         Spot {
             strip,
             values,

@@ -26,6 +26,7 @@ pub mod Blocks
 pub mod Written
 pub mod Roots
 pub mod Handing
+pub mod Handed
 mod Leaned
 mod Watched
 pub mod Notes

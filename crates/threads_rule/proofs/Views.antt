@@ -2,7 +2,6 @@
 -- last step looks at; and what is promised of it.
 pub mod Numbers
 mod Quiet
-mod Handed
 mod Ran
 mod Made
 mod Within

@@ -25,7 +25,7 @@ use Rattle.threads_rule.specs.declared.view.Map.{Map}
 use Rattle.threads_rule.specs.declared.view.View.{View}
 use Rattle.threads_rule.specs.declared.view.SeatWork.{SeatWork}
 use Rattle.threads_rule.specs.declared.view.SeatWork.TheVariants.{Nothing, Calls, Makes}
-use Rattle.threads_rule.proofs.Views.Handed.{reclaiming_handed}
+use Rattle.seize_views.proofs.Views.Handed.{reclaiming_handed}
 use Rattle.threads_rule.proofs.Views.Leaves.{own_section}
 use Rattle.threads_rule.proofs.Views.Ran.{Keeps}
 

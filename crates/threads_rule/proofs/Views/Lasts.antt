@@ -21,7 +21,7 @@ use Rattle.threads_rule.specs.Views.Rule.{DoesSo, KnowsMap, IsOfCall}
 use Rattle.threads_rule.specs.declared.view.Map.{Map}
 use Rattle.threads_rule.specs.declared.view.SeatWork.{SeatWork}
 use Rattle.threads_rule.specs.declared.view.SeatWork.TheVariants.{Nothing, Calls, Makes}
-use Rattle.threads_rule.proofs.Views.Handed.{reclaiming_handed}
+use Rattle.seize_views.proofs.Views.Handed.{reclaiming_handed}
 use Rattle.threads_rule.proofs.Views.Leaves.{Leaves}
 use Rattle.threads_rule.proofs.Views.Made.{own_is_made}
 use Rattle.threads_rule.proofs.Views.Within.{RowReclaims, row_reclaims}

@@ -22,7 +22,7 @@ use Rattle.seize_acts.specs.Acts.Waits.{SettlesOn}
 use Rattle.seize_acts.specs.Bounds.Bounds.{IsOfOthers, IsAloneOnSlot, Meanwhile}
 use Rattle.seize_acts.proofs.Bounds.Bounds.Passing.{event_row}
 use Rattle.seize_views.proofs.Views.Steps.{step_keeps}
-use Rattle.threads_rule.proofs.Views.Handed.{users_keep}
+use Rattle.seize_views.proofs.Views.Handed.{users_keep}
 use Rattle.threads_rule.proofs.Views.Quiet.{HandsOne, Stayed, SameOwners, users_stay, users_end_none, row_stays, row_ends_none}
 use Rattle.seize_model.proofs.Alone.Histories.UsersTurn.{AreUsers as AllOfUsers}
 

@@ -10,21 +10,21 @@ use Rattle.seize.specs.declared.rows.settle.Settling.{Settling}
 use Rattle.seize.specs.declared.rows.settle.Settling.TheVariants as at
 use Rattle.seize.specs.Sequence.{IsUsers}
 use Rattle.seize.specs.World.{World, Row, Hand, NoBlock, Making, InUse, Parting, Cutting, Handed, LeftTo, Event, Begin, Step, Makes, Drops, Links, Parts, Unlinks, Rewrites, Operates, Ends, LeavesOver, Relinks, Clears, Chooses, Happens, Runs, MayCut, made_by}
-use Rattle.seize_model.proofs.Given.SeizeMovesState.Ghost.{Life, IsDoomed}
-use Rattle.seize_model.proofs.Given.SeizeMovesMoves.Takes.{first_doomed}
-use Rattle.seize_model.proofs.Given.SeizeRulePoints.Aside.{HandFits, is_handed}
-use Rattle.seize_model.proofs.Given.SeizeRulePoints.Deferred.{next_left}
-use Rattle.seize_model.proofs.Given.SeizeRulePoints.Known.{Backs, FitsAt, bare}
-use Rattle.seize_model.proofs.Given.SeizeRuleRows.Known.{FitsRow}
-use Rattle.seize_model.proofs.Given.SeizeRuleRows.Others.{with_other}
-use Rattle.seize_model.proofs.Given.SeizeMemoryWords.Named.{link-block, made_one}
-use Rattle.seize_model.proofs.Given.SeizeMemoryWords.View.{view}
-use Rattle.seize_model.proofs.Given.SeizeRuleWorld.Values.{own_op_value, taken_value, made_value, rewritten_value}
-use Rattle.seize_model.proofs.Alone.Histories.Reached.{Reached, happens_reached}
+use Rattle.seize_acts.proofs.Given.SeizeMovesState.Ghost.{Life, IsDoomed}
+use Rattle.seize_acts.proofs.Given.SeizeMovesMoves.Takes.{first_doomed}
+use Rattle.seize_acts.proofs.Given.SeizeRulePoints.Aside.{HandFits, is_handed}
+use Rattle.seize_acts.proofs.Given.SeizeRulePoints.Deferred.{next_left}
+use Rattle.seize_acts.proofs.Given.SeizeRulePoints.Known.{Backs, FitsAt, bare}
+use Rattle.seize_acts.proofs.Given.SeizeRuleRows.Known.{FitsRow}
+use Rattle.seize_acts.proofs.Given.SeizeRuleRows.Others.{with_other}
+use Rattle.seize_acts.proofs.Given.SeizeMemoryWords.Named.{link-block, made_one}
+use Rattle.seize_acts.proofs.Given.SeizeMemoryWords.View.{view}
+use Rattle.seize_acts.proofs.Given.SeizeRuleWorld.Values.{own_op_value, taken_value, made_value, rewritten_value}
+use Rattle.seize_acts.proofs.Given.SeizeAloneHistories.Reached.{Reached, happens_reached}
 use Rattle.seize_views.specs.Views.Rows.{settles_for, IsReclaiming}
 use Rattle.seize_views.specs.declared.view.Why.{Why}
 use Rattle.seize_views.proofs.Views.Reclaims.{fits_settle}
-use Rattle.seize_model.proofs.Alone.Histories.UsersTurn.{AreUsers as AllOfUsers}
+use Rattle.seize_acts.proofs.Given.SeizeAloneHistories.UsersTurn.{AreUsers as AllOfUsers}
 
 -- what is on its way to the collector, or there, is in its hand
 is_its : (k : Hand) (l : Life) → is_handed l ≡ true → HandFits k l → k ≡ Handed
