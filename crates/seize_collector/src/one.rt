@@ -18,12 +18,17 @@ pub trait One<T: Defers>: Rule<T, Fixed = Fixed> + Leftovers<T> {
     /// What it reclaims all by, once it has sought a slot.
     ghost all: { Self.View → ReclaimAll };
 
+    /// What a view has beside that, which stays.
+    ghost Beside: { Type 0 };
+
+    ghost beside: { Self.View → Beside };
+
     /// Each operation of the one that acts may be made, whatever is answered, and tells it how far it has come; a step of its machine that makes none is a turn;
     /// what it is about to look at is there. All seats rest, and none leans on another.
     fn acts_alone()
-        ensures tells { OneTells acts all T.defers Self.left Self.then }
+        ensures tells { OneTells acts all T.defers Self.left beside Self.then }
         ensures goes { OneMayGoOn acts T.defers Self.left Self.holds Self.keeps Self.then }
-        ensures turns { OneMayTurn acts T.defers Self.left Self.holds Self.keeps }
+        ensures turns { OneMayTurn acts T.defers Self.left Self.holds Self.keeps beside }
         ensures shown { OneIsShownAll acts T.defers Self.left Self.holds }
         ensures rest { AllRest Self.rests }
         ensures aside { NobodyLeans Self.leans };
@@ -36,6 +41,10 @@ impl<T: Defers> One<T> for OfOne {
     ghost acts = { λ v. Some v };
 
     ghost all = { all_of_one };
+
+    ghost Beside = { Unit {0} };
+
+    ghost beside = { λ _. tt };
 
     fn acts_alone() {}
 }

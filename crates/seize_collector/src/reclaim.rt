@@ -23,8 +23,8 @@ pub fn acts<T: Defers + Drop, R: One<T>>(
 ) -> Seat<T, R>
     requires own { seat.base ≡ blocks.now.words.id.views_name }
     requires sized { blocks.now.words.fixed.batch_size < 2 ^ 64 }
-    requires begins { IsSeeking 0 Begin blocks.now.words.fixed.batch_size (R.acts seat.view) × (R.all seat.view ≡ all) }
-    ensures own { result.base ≡ blocks.now.words.id.views_name }
+    requires begins { IsSeeking all 0 Begin (R.acts seat.view) (R.all seat.view) }
+    ensures own { (result.base ≡ blocks.now.words.id.views_name) × (R.beside result.view ≡ R.beside seat.view) }
     ensures over { (c : ReclaimAll) × (c.stands ≡ Over) × IsUnderWay c (R.acts result.view) }
 {
     let mut row = all;

@@ -58,5 +58,5 @@ pub struct Passing<T, R>(PhantomData<(T, R)>);
 impl<T: Defers, R: One<T>> Turn<Fixed, R::View> for Passing<T, R> {
     ghost use Rattle.seize_collector.specs.Empties.Asked.{HasPassed};
 
-    ghost to = { λ _. HasPassed R.acts T.defers R.left };
+    ghost to = { λ _. HasPassed R.acts T.defers R.left R.beside };
 }

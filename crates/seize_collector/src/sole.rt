@@ -1,19 +1,17 @@
 //! The one who has the memory to himself: he takes a slot first, so that the slots have their words, and then reclaims all.
-ghost use Rattle.std.specs.Prelude.{◌≡◌, ◌≢◌, ◌<◌, ◌+◌, ◌^◌, true, false};
+ghost use Rattle.std.specs.Prelude.{◌≡◌, ◌≢◌, ◌<◌, ◌+◌, ◌^◌, true, false, Some};
 ghost use Rattle.seize.specs.declared.states.TheConstants.{LAST_SLOT};
 ghost use Rattle.seize.specs.declared.rows.reclaim_all.ReclaimAll.{ReclaimAll};
 ghost use Rattle.seize.specs.declared.rows.reclaim_all.Reclaiming.TheVariants.{Over};
-ghost use Rattle.seize.specs.declared.rows.register.Registering.TheVariants.{Begin, Look, Take};
-ghost use Rattle.seize_views.specs.Views.Begun.{seeker_at};
+ghost use Rattle.seize.specs.declared.rows.register.Registering.TheVariants.{Begin, Look, Widen, Take};
+ghost use Rattle.seize.specs.Register.{bucket_needed};
 ghost use Rattle.seize_collector.specs.Empties.Asked.{HasPassed};
-ghost use Rattle.seize_collector.specs.declared.alone.Alone.TheVariants.{Registers};
 ghost use Rattle.seize_collector.specs.Empties.Emptying.{IsUnderWay, Seeks, IsSeeking, leave_passes, settle_passes, passes, left_of};
 
 use crate::one::One;
 use crate::rule::Passing;
 use seize::rows::{
-    Defers, Leave, Leaving, ReclaimAll, Reclaiming, Settle, Settled, Settling,
-    needed_bucket,
+    Defers, Leave, Leaving, ReclaimAll, Reclaiming, Settle, Settled, Settling, needed_bucket,
 };
 use seize::states::{FREE, HEAD, IDLE, LAST_SLOT, NEVER};
 use seize_blocks::{Blocks, Seat};
@@ -70,19 +68,34 @@ fn passes(row: &ReclaimAll) -> bool
 impl<'a, T: Defers, R: One<T>> Sole<'a, T, R> {
     /// Begins to look for a slot. Slots have words from then on.
     fn begins(&mut self, all: &ReclaimAll)
-        requires begins { IsSeeking 0 Begin self.old.blocks.now.words.fixed.batch_size (R.acts self.old.seat.view) × (R.all self.old.seat.view ≡ all.now) }
-        ensures seeks { Seeks all.now self.old.blocks.now.words.fixed.batch_size 0 (R.acts self.new.seat.view) (R.all self.new.seat.view) }
+        requires { IsSeeking all.now 0 Begin (R.acts self.old.seat.view) (R.all self.old.seat.view) }
+        ensures seeks { Seeks all.now 0 (R.acts self.new.seat.view) (R.all self.new.seat.view) }
+        ensures beside { R.beside self.new.seat.view ≡ R.beside self.old.seat.view }
         ensures blocks { self.new.blocks ≡ self.old.blocks }
     {
         R::acts_alone();
         let _ = self.blocks.room(&mut self.seat, 0);
     }
 
+    /// Makes room for a bucket that a slot needs whose head was seen so, and tells whether that was refused.
+    fn widens(&mut self, all: &ReclaimAll, slot: u64, seen: u64, bucket: u64) -> bool
+        requires needs { Some bucket ≡ bucket_needed slot }
+        requires seeks { IsSeeking all.now slot (Widen bucket seen) (R.acts self.old.seat.view) (R.all self.old.seat.view) }
+        ensures ends { result ≡ true → IsUnderWay all.now (R.acts self.new.seat.view) }
+        ensures on { result ≡ false → IsSeeking all.now slot (Take seen) (R.acts self.new.seat.view) (R.all self.new.seat.view) }
+        ensures beside { R.beside self.new.seat.view ≡ R.beside self.old.seat.view }
+        ensures blocks { self.new.blocks ≡ self.old.blocks }
+    {
+        R::acts_alone();
+        self.room(bucket).is_err()
+    }
+
     /// Takes a slot whose head was seen so, and tells whether registering has ended.
     fn occupies(&mut self, all: &ReclaimAll, slot: u64, seen: u64) -> bool
-        requires { IsSeeking slot (Take seen) self.old.blocks.now.words.fixed.batch_size (R.acts self.old.seat.view) × (R.all self.old.seat.view ≡ all.now) }
+        requires { IsSeeking all.now slot (Take seen) (R.acts self.old.seat.view) (R.all self.old.seat.view) }
         ensures ends { result ≡ true → IsUnderWay all.now (R.acts self.new.seat.view) }
-        ensures on { result ≡ false → Seeks all.now self.old.blocks.now.words.fixed.batch_size (slot + 1) (R.acts self.new.seat.view) (R.all self.new.seat.view) }
+        ensures on { result ≡ false → Seeks all.now (slot + 1) (R.acts self.new.seat.view) (R.all self.new.seat.view) }
+        ensures beside { R.beside self.new.seat.view ≡ R.beside self.old.seat.view }
         ensures blocks { self.new.blocks ≡ self.old.blocks }
     {
         R::acts_alone();
@@ -92,9 +105,10 @@ impl<'a, T: Defers, R: One<T>> Sole<'a, T, R> {
     /// Tries one slot, and tells whether registering has ended.
     fn tries(&mut self, all: &ReclaimAll, slot: u64) -> bool
         requires slot { slot < LAST_SLOT + 1 }
-        requires seeks { IsSeeking slot Look self.old.blocks.now.words.fixed.batch_size (R.acts self.old.seat.view) × (R.all self.old.seat.view ≡ all.now) }
+        requires seeks { IsSeeking all.now slot Look (R.acts self.old.seat.view) (R.all self.old.seat.view) }
         ensures ends { result ≡ true → IsUnderWay all.now (R.acts self.new.seat.view) }
-        ensures on { result ≡ false → Seeks all.now self.old.blocks.now.words.fixed.batch_size (slot + 1) (R.acts self.new.seat.view) (R.all self.new.seat.view) }
+        ensures on { result ≡ false → Seeks all.now (slot + 1) (R.acts self.new.seat.view) (R.all self.new.seat.view) }
+        ensures beside { R.beside self.new.seat.view ≡ R.beside self.old.seat.view }
         ensures blocks { self.new.blocks ≡ self.old.blocks }
     {
         R::acts_alone();
@@ -102,18 +116,19 @@ impl<'a, T: Defers, R: One<T>> Sole<'a, T, R> {
         if seen != NEVER && seen != FREE {
             return false;
         }
-        if let Some(bucket) = needed_bucket(slot) {
-            if self.room(bucket).is_err() {
-                return true;
+        match needed_bucket(slot) {
+            Some(bucket) => {
+                self.widens(all, slot, seen, bucket) || self.occupies(all, slot, seen)
             }
+            None => self.occupies(all, slot, seen),
         }
-        self.occupies(all, slot, seen)
     }
 
     /// Takes a slot, if one can be taken.
     fn registers(&mut self, all: &ReclaimAll)
-        requires begins { IsSeeking 0 Begin self.old.blocks.now.words.fixed.batch_size (R.acts self.old.seat.view) × (R.all self.old.seat.view ≡ all.now) }
+        requires { IsSeeking all.now 0 Begin (R.acts self.old.seat.view) (R.all self.old.seat.view) }
         ensures ends { IsUnderWay all.now (R.acts self.new.seat.view) }
+        ensures beside { R.beside self.new.seat.view ≡ R.beside self.old.seat.view }
         ensures blocks { self.new.blocks ≡ self.old.blocks }
     {
         self.begins(all);
@@ -129,7 +144,8 @@ impl<'a, T: Defers, R: One<T>> Sole<'a, T, R> {
         requires under { IsUnderWay row.now (R.acts self.old.seat.view) }
         requires not { row.now.stands ≢ Over }
         requires passes { passes row.now ≡ true }
-        ensures passed { HasPassed R.acts T.defers R.left self.old.seat.view self.new.seat.view }
+        ensures passed { HasPassed R.acts T.defers R.left R.beside self.old.seat.view self.new.seat.view }
+        ensures beside { R.beside self.new.seat.view ≡ R.beside self.old.seat.view }
         ensures blocks { self.new.blocks ≡ self.old.blocks }
     {
         R::acts_alone();
@@ -143,6 +159,7 @@ impl<'a, T: Defers, R: One<T>> Sole<'a, T, R> {
         requires passes { passes row.old ≡ true }
         ensures under { IsUnderWay row.new (R.acts self.new.seat.view) }
         ensures falls { left_of (R.acts self.new.seat.view) < left_of (R.acts self.old.seat.view) }
+        ensures beside { R.beside self.new.seat.view ≡ R.beside self.old.seat.view }
         ensures blocks { self.new.blocks ≡ self.old.blocks }
     {
         self.passes_by(row);
@@ -159,6 +176,7 @@ impl<'a, T: Defers, R: One<T>> Sole<'a, T, R> {
         requires makes { passes row.old ≡ false }
         ensures under { IsUnderWay row.new (R.acts self.new.seat.view) }
         ensures falls { left_of (R.acts self.new.seat.view) < left_of (R.acts self.old.seat.view) }
+        ensures beside { R.beside self.new.seat.view ≡ R.beside self.old.seat.view }
         ensures blocks { self.new.blocks ≡ self.old.blocks }
     {
         R::acts_alone();
@@ -174,6 +192,7 @@ impl<'a, T: Defers, R: One<T>> Sole<'a, T, R> {
         requires not { row.old.stands ≢ Over }
         ensures under { IsUnderWay row.new (R.acts self.new.seat.view) }
         ensures falls { left_of (R.acts self.new.seat.view) < left_of (R.acts self.old.seat.view) }
+        ensures beside { R.beside self.new.seat.view ≡ R.beside self.old.seat.view }
         ensures blocks { self.new.blocks ≡ self.old.blocks }
     {
         if passes(row) {
@@ -190,6 +209,7 @@ impl<'a, T: Defers + Drop, R: One<T>> Sole<'a, T, R> {
         requires under { IsUnderWay row.old (R.acts self.old.seat.view) }
         ensures under { IsUnderWay row.new (R.acts self.new.seat.view) }
         ensures over { row.new.stands ≡ Over }
+        ensures beside { R.beside self.new.seat.view ≡ R.beside self.old.seat.view }
         ensures blocks { self.new.blocks ≡ self.old.blocks }
     {
         while !is_over(row) {
@@ -199,8 +219,9 @@ impl<'a, T: Defers + Drop, R: One<T>> Sole<'a, T, R> {
 
     /// Takes a slot, and reclaims all by this. Values that are reclaimed are dropped.
     pub(crate) fn reclaims(&mut self, row: &mut ReclaimAll)
-        requires begins { IsSeeking 0 Begin self.old.blocks.now.words.fixed.batch_size (R.acts self.old.seat.view) × (R.all self.old.seat.view ≡ row.old) }
+        requires { IsSeeking row.old 0 Begin (R.acts self.old.seat.view) (R.all self.old.seat.view) }
         ensures over { (c : ReclaimAll) × (c.stands ≡ Over) × IsUnderWay c (R.acts self.new.seat.view) }
+        ensures beside { R.beside self.new.seat.view ≡ R.beside self.old.seat.view }
         ensures blocks { self.new.blocks ≡ self.old.blocks }
     {
         self.registers(row);

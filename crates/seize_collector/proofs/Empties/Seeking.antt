@@ -15,7 +15,7 @@ use Rattle.seize.specs.declared.rows.reclaim_all.ReclaimAll.{ReclaimAll}
 use Rattle.seize_views.specs.Views.Begun.{seeker_at}
 use Rattle.seize_collector.specs.declared.alone.Alone.{Alone}
 use Rattle.seize_collector.specs.declared.alone.Alone.TheVariants.{Registers}
-use Rattle.core.specs.Result.{is_ok}
+use Rattle.core.specs.Result.{is_ok, is_err}
 use Rattle.seize_collector.specs.Empties.Asked.{HasSought, HasTold, OneTells}
 use Rattle.seize_collector.specs.Empties.Emptying.{IsUnderWay, IsSeeking, Seeks, SeeksBy}
 
@@ -24,98 +24,115 @@ pub free_head : (seen : ℕ) → ((seen ≡ NEVER → ⊥) × (seen ≡ FREE)) �
 free_head seen (inl e) = subst (λ (k : ℕ). can_be_taken k ≡ true) (sym e.1) refl
 free_head seen (inr e) = subst (λ (k : ℕ). can_be_taken k ≡ true) (sym e) refl
 
-module _ {T V : Type 0} (defers : T → Option ℕ) (left_over : T → Bool) (acts : V → Option (Alone T)) (all : V → ReclaimAll) (then_ : V → Op T → Out T → V → Type 0)
-    (tells : OneTells acts all defers left_over then_) (v w : V) (size : ℕ) (row : ReclaimAll) (by_it : all v ≡ row) where
+module _ {T V X : Type 0} (defers : T → Option ℕ) (left_over : T → Bool) (acts : V → Option (Alone T)) (all : V → ReclaimAll) (beside : V → X) (then_ : V → Op T → Out T → V → Type 0)
+    (tells : OneTells acts all defers left_over beside then_) (v w : V) (row : ReclaimAll) where
+  abbrev size : ℕ
+  size = row.batch_size
+
   known : (c : Register) (op : Op T) (out : Out T) → acts v ≡ Some (Registers c size) → then_ v op out w → HasTold acts all defers left_over v (Registers c size) op out w
-  known c op out is so = tells v w (Registers c size) op out is so
+  known c op out is so = (tells v w (Registers c size) op out is so).0
+
+  pub stays : (c : Register) (op : Op T) (out : Out T) → acts v ≡ Some (Registers c size) → then_ v op out w → beside w ≡ beside v
+  stays c op out is so = (tells v w (Registers c size) op out is so).1
 
   abbrev Ended : Register × Advance ℕ → Type 0
   Ended end = HasSought acts all size v end w
 
   abbrev SeeksNow : ℕ → Type 0
-  SeeksNow slot = Seeks row size slot (acts w) (all w)
+  SeeksNow slot = Seeks row slot (acts w) (all w)
 
-  under : IsUnderWay (all v) (acts w) → IsUnderWay row (acts w)
-  under is = subst (λ (r : ReclaimAll). IsUnderWay r (acts w)) by_it is
+  abbrev Was : ℕ → Registering → Type 0
+  Was slot stands = IsSeeking row slot stands (acts v) (all v)
+
+  abbrev Is : ℕ → Registering → Type 0
+  Is slot stands = IsSeeking row slot stands (acts w) (all w)
+
+  under : all v ≡ row → IsUnderWay (all v) (acts w) → IsUnderWay row (acts w)
+  under by_it is = subst (λ (r : ReclaimAll). IsUnderWay r (acts w)) by_it is
 
   -- the first bucket has its words
-  begun_there : (u : _) → IsSeeking 0 at.Begin size (acts v) → then_ v (Room 0) (Roomed (Ok u)) w → SeeksNow 0
+  begun_there : (u : _) → Was 0 at.Begin → then_ v (Room 0) (Roomed (Ok u)) w → SeeksNow 0
   begun_there u is so =
-      let k = known (seeker_at 0 at.Begin) (Room 0) (Roomed (Ok u)) is so in
-      let e : Ended (going (seeker_at 0 at.Begin) at.Look) = subst Ended k.1.3 k.2 in (e.0, e.1 ∙ by_it)
+      let k = known (seeker_at 0 at.Begin) (Room 0) (Roomed (Ok u)) is.0 so in
+      let e : Ended (going (seeker_at 0 at.Begin) at.Look) = subst Ended k.1.3 k.2 in (e.0, e.1 ∙ is.1)
 
-  pub has_begun : (r : Result _ Fault) → r ≡ Ok tt → IsSeeking 0 at.Begin size (acts v) → then_ v (Room 0) (Roomed r) w → SeeksNow 0
+  pub has_begun : (r : Result _ Fault) → r ≡ Ok tt → Was 0 at.Begin → then_ v (Room 0) (Roomed r) w → SeeksNow 0
   has_begun r e is so = begun_there tt is (subst (λ (o : Result _ Fault). then_ v (Room 0) (Roomed o) w) e so)
 
   module _ (slot : ℕ) where
     -- the next slot, if there is one
-    past : (stands : Registering) (b : Bool) → nat_lt slot LAST_SLOT ≡ b → Ended (further (seeker_at slot stands)) → SeeksNow (slot + 1)
-    past stands true lt is =
+    past : (stands : Registering) → all v ≡ row → (b : Bool) → nat_lt slot LAST_SLOT ≡ b → Ended (further (seeker_at slot stands)) → SeeksNow (slot + 1)
+    past stands by_it true lt is =
         let here : nat_lt (slot + 1) (LAST_SLOT + 1) ≡ true = grind (arith, lt) in
         let e : Ended (going (seeker_at (slot + 1) stands) at.Look) =
         subst (λ (t : Bool). Ended (if t then going (seeker_at (slot + 1) stands) at.Look else refused (seeker_at slot stands) SlotsUsedUp)) lt is in
-        subst (λ (t : Bool). SeeksBy t row size (slot + 1) (acts w) (all w)) (sym here) (e.0, e.1 ∙ by_it)
-    past stands false lt is =
+        subst (λ (t : Bool). SeeksBy t row (slot + 1) (acts w) (all w)) (sym here) (e.0, e.1 ∙ by_it)
+    past stands by_it false lt is =
         let here : nat_lt (slot + 1) (LAST_SLOT + 1) ≡ false = grind (arith, lt) in
         let e : Ended (refused (seeker_at slot stands) SlotsUsedUp) =
         subst (λ (t : Bool). Ended (if t then going (seeker_at (slot + 1) stands) at.Look else refused (seeker_at slot stands) SlotsUsedUp)) lt is in
-        subst (λ (t : Bool). SeeksBy t row size (slot + 1) (acts w) (all w)) (sym here) (elim e as (λ _. IsUnderWay row (acts w)) [
+        subst (λ (t : Bool). SeeksBy t row (slot + 1) (acts w) (all w)) (sym here) (elim e as (λ _. IsUnderWay row (acts w)) [
           | inl first ↦ absurd (grind (arith, lt, first))
-          | inr on ↦ under on
+          | inr on ↦ under by_it on
         ])
 
-    looked : (seen : ℕ) (b : Bool) → can_be_taken seen ≡ b → IsSeeking slot at.Look size (acts v) → then_ v (Load (Slot slot HEAD)) (Found seen) w
+    looked : (seen : ℕ) (b : Bool) → can_be_taken seen ≡ b → Was slot at.Look → then_ v (Load (Slot slot HEAD)) (Found seen) w
         → Ended (if b then taking (seeker_at slot at.Look) seen (bucket_needed slot) else further (seeker_at slot at.Look))
     looked seen b free is so =
-        let k = known (seeker_at slot at.Look) (Load (Slot slot HEAD)) (Found seen) is so in
+        let k = known (seeker_at slot at.Look) (Load (Slot slot HEAD)) (Found seen) is.0 so in
         subst (λ (t : Bool). Ended (if t then taking (seeker_at slot at.Look) seen (bucket_needed slot) else further (seeker_at slot at.Look))) free
         (subst Ended k.1.3 k.2)
 
     -- one that can be taken is taken, once the bucket that it needs has its words
-    pub seen_needs : (seen bucket : ℕ) → Some bucket ≡ bucket_needed slot → can_be_taken seen ≡ true → IsSeeking slot at.Look size (acts v)
-        → then_ v (Load (Slot slot HEAD)) (Found seen) w → IsSeeking slot (at.Widen bucket seen) size (acts w) × (all w ≡ row)
+    pub seen_needs : (seen bucket : ℕ) → Some bucket ≡ bucket_needed slot → can_be_taken seen ≡ true → Was slot at.Look
+        → then_ v (Load (Slot slot HEAD)) (Found seen) w → Is slot (at.Widen bucket seen)
     seen_needs seen bucket needs free is so =
         let e : Ended (taking (seeker_at slot at.Look) seen (Some bucket)) =
-        subst (λ (o : Option ℕ). Ended (taking (seeker_at slot at.Look) seen o)) (sym needs) (looked seen true free is so) in (e.0, e.1 ∙ by_it)
+        subst (λ (o : Option ℕ). Ended (taking (seeker_at slot at.Look) seen o)) (sym needs) (looked seen true free is so) in (e.0, e.1 ∙ is.1)
 
-    pub seen_free : (seen : ℕ) → bucket_needed slot ≡ None → can_be_taken seen ≡ true → IsSeeking slot at.Look size (acts v)
-        → then_ v (Load (Slot slot HEAD)) (Found seen) w → IsSeeking slot (at.Take seen) size (acts w) × (all w ≡ row)
+    pub seen_free : (seen : ℕ) → bucket_needed slot ≡ None → can_be_taken seen ≡ true → Was slot at.Look
+        → then_ v (Load (Slot slot HEAD)) (Found seen) w → Is slot (at.Take seen)
     seen_free seen needs free is so =
         let e : Ended (taking (seeker_at slot at.Look) seen None) =
-        subst (λ (o : Option ℕ). Ended (taking (seeker_at slot at.Look) seen o)) needs (looked seen true free is so) in (e.0, e.1 ∙ by_it)
+        subst (λ (o : Option ℕ). Ended (taking (seeker_at slot at.Look) seen o)) needs (looked seen true free is so) in (e.0, e.1 ∙ is.1)
 
-    pub seen_taken : (seen : ℕ) → can_be_taken seen ≡ false → IsSeeking slot at.Look size (acts v) → then_ v (Load (Slot slot HEAD)) (Found seen) w → SeeksNow (slot + 1)
-    seen_taken seen free is so = past at.Look (nat_lt slot LAST_SLOT) refl (looked seen false free is so)
+    pub seen_taken : (seen : ℕ) → can_be_taken seen ≡ false → Was slot at.Look → then_ v (Load (Slot slot HEAD)) (Found seen) w → SeeksNow (slot + 1)
+    seen_taken seen free is so = past at.Look is.1 (nat_lt slot LAST_SLOT) refl (looked seen false free is so)
 
     -- the bucket that it needs has its words, or is refused
-    pub widened_there : (seen bucket : ℕ) (u : _) → IsSeeking slot (at.Widen bucket seen) size (acts v) → then_ v (Room bucket) (Roomed (Ok u)) w
-        → IsSeeking slot (at.Take seen) size (acts w) × (all w ≡ row)
+    widened_there : (seen bucket : ℕ) (u : _) → Was slot (at.Widen bucket seen) → then_ v (Room bucket) (Roomed (Ok u)) w
+        → Is slot (at.Take seen)
     widened_there seen bucket u is so =
-        let k = known (seeker_at slot (at.Widen bucket seen)) (Room bucket) (Roomed (Ok u)) is so in
-        let e : Ended (going (seeker_at slot (at.Widen bucket seen)) (at.Take seen)) = subst Ended k.1.3 k.2 in (e.0, e.1 ∙ by_it)
+        let k = known (seeker_at slot (at.Widen bucket seen)) (Room bucket) (Roomed (Ok u)) is.0 so in
+        let e : Ended (going (seeker_at slot (at.Widen bucket seen)) (at.Take seen)) = subst Ended k.1.3 k.2 in (e.0, e.1 ∙ is.1)
 
-    pub widened_refused : (seen bucket : ℕ) (f : Fault) → Some bucket ≡ bucket_needed slot → IsSeeking slot (at.Widen bucket seen) size (acts v)
+    widened_refused : (seen bucket : ℕ) (f : Fault) → Some bucket ≡ bucket_needed slot → Was slot (at.Widen bucket seen)
         → then_ v (Room bucket) (Roomed (Err f)) w → IsUnderWay row (acts w)
     widened_refused seen bucket f needs is so =
-        let k = known (seeker_at slot (at.Widen bucket seen)) (Room bucket) (Roomed (Err f)) is so in
+        let k = known (seeker_at slot (at.Widen bucket seen)) (Room bucket) (Roomed (Err f)) is.0 so in
         let e : Ended (refused (seeker_at slot (at.Widen bucket seen)) f) = subst Ended k.1.3 k.2 in elim e as (λ _. IsUnderWay row (acts w)) [
           | inl first ↦ (let none : bucket_needed slot ≡ None = ap bucket_needed first in absurd (cc (needs, none)))
-          | inr on ↦ under on
+          | inr on ↦ under is.1 on
         ]
 
-    -- it was taken, or somebody was faster
-    taken_there : (seen found : ℕ) → IsSeeking slot (at.Take seen) size (acts v) → then_ v (Exchange (Slot slot HEAD) seen IDLE) (Exchanged (Ok found)) w → IsUnderWay row (acts w)
-    taken_there seen found is so =
-        let c : Register = seeker_at slot (at.Take seen) in let k = known c (Exchange (Slot slot HEAD) seen IDLE) (Exchanged (Ok found)) is so in
-        let e : Ended (registered c) = subst Ended k.1.3 k.2 in under e
+    pub widened : (seen bucket : ℕ) (r : Result _ Fault) → Some bucket ≡ bucket_needed slot → Was slot (at.Widen bucket seen) → then_ v (Room bucket) (Roomed r) w
+        → (is_err r ≡ true → IsUnderWay row (acts w)) × (is_err r ≡ false → Is slot (at.Take seen))
+    widened seen bucket (Ok u) needs is so = (λ yes. absurd (cc yes), λ no. widened_there seen bucket u is so)
+    widened seen bucket (Err f) needs is so = (λ yes. widened_refused seen bucket f needs is so, λ no. absurd (cc no))
 
-    taken_lost : (seen found : ℕ) → IsSeeking slot (at.Take seen) size (acts v) → then_ v (Exchange (Slot slot HEAD) seen IDLE) (Exchanged (Err found)) w → SeeksNow (slot + 1)
+    -- it was taken, or somebody was faster
+    taken_there : (seen found : ℕ) → Was slot (at.Take seen) → then_ v (Exchange (Slot slot HEAD) seen IDLE) (Exchanged (Ok found)) w → IsUnderWay row (acts w)
+    taken_there seen found is so =
+        let c : Register = seeker_at slot (at.Take seen) in let k = known c (Exchange (Slot slot HEAD) seen IDLE) (Exchanged (Ok found)) is.0 so in
+        let e : Ended (registered c) = subst Ended k.1.3 k.2 in under is.1 e
+
+    taken_lost : (seen found : ℕ) → Was slot (at.Take seen) → then_ v (Exchange (Slot slot HEAD) seen IDLE) (Exchanged (Err found)) w → SeeksNow (slot + 1)
     taken_lost seen found is so =
-        let c : Register = seeker_at slot (at.Take seen) in let k = known c (Exchange (Slot slot HEAD) seen IDLE) (Exchanged (Err found)) is so in
-        past (at.Take seen) (nat_lt slot LAST_SLOT) refl (subst Ended k.1.3 k.2)
+        let c : Register = seeker_at slot (at.Take seen) in let k = known c (Exchange (Slot slot HEAD) seen IDLE) (Exchanged (Err found)) is.0 so in
+        past (at.Take seen) is.1 (nat_lt slot LAST_SLOT) refl (subst Ended k.1.3 k.2)
 
     -- whatever was answered
-    pub occupied : (seen : ℕ) (r : Result ℕ ℕ) → IsSeeking slot (at.Take seen) size (acts v) → then_ v (Exchange (Slot slot HEAD) seen IDLE) (Exchanged r) w
+    pub occupied : (seen : ℕ) (r : Result ℕ ℕ) → Was slot (at.Take seen) → then_ v (Exchange (Slot slot HEAD) seen IDLE) (Exchanged r) w
         → (is_ok r ≡ true → IsUnderWay row (acts w)) × (is_ok r ≡ false → SeeksNow (slot + 1))
     occupied seen (Ok found) is so = (λ yes. taken_there seen found is so, λ no. absurd (cc no))
     occupied seen (Err found) is so = (λ yes. absurd (cc yes), λ no. taken_lost seen found is so)

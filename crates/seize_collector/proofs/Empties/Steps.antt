@@ -213,8 +213,8 @@ module _ {T : Type 0} (defers : T → Option ℕ) (left_over : T → Bool) where
   not_rewrite v b x e = subst IsNoRewrite e (one_none v)
 
 -- ---- a step over a memory of which it is known what may be done, and what it told
-module _ {T M V B : Type 0} (defers : T → Option ℕ) (left_over : T → Bool) (blocks : M → B) (view : M → V) (acts : V → Option (Alone T)) (all : V → ReclaimAll)
-    (then_ : V → Op T → Out T → V → Type 0) (owns : M → ℕ → Type 0) (allowed : M → Op T → Type 0) where
+module _ {T M V B X : Type 0} (defers : T → Option ℕ) (left_over : T → Bool) (blocks : M → B) (view : M → V) (acts : V → Option (Alone T)) (all : V → ReclaimAll)
+    (beside : V → X) (then_ : V → Op T → Out T → V → Type 0) (owns : M → ℕ → Type 0) (allowed : M → Op T → Type 0) where
   abbrev CanOne : M → Op T → Type 0
   CanOne = Can owns allowed
 
@@ -249,9 +249,9 @@ module _ {T M V B : Type 0} (defers : T → Option ℕ) (left_over : T → Bool)
   pub can_make : (m : M) → MayGoOn m → (a : Alone T) (op : Op T) → one m ≡ Some a → op_of_one defers left_over a ≡ Some op → CanOne m op
   can_make m law a op is e = record { alone = has_alone m a op e; may = law a op is e }
 
-  module _ (tells : OneTells acts all defers left_over then_) (m : M) (law : MayGoOn m) (c : ReclaimAll) (under : IsUnderWay c (one m)) (does : IsDo (plan c)) where
+  module _ (tells : OneTells acts all defers left_over beside then_) (m : M) (law : MayGoOn m) (c : ReclaimAll) (under : IsUnderWay c (one m)) (does : IsDo (plan c)) where
     told : (op : Op T) (out : Out T) (n : M) → HasOne m op out n → (a : Alone T) × (one n ≡ Some a) × ReclaimsOn defers left_over c under.1 out a
-    told op out n made = tells (view m) (view n) (Reclaims c under.0 under.1) op out under.2 made.1
+    told op out n made = (tells (view m) (view n) (Reclaims c under.0 under.1) op out under.2 made.1).0
 
     follows : (op : Op T) (out : Out T) (n : M) (made : HasOne m op out n) → FollowsBy (shown n) (plan c) out (told op out n made).2.end
     follows op out n made =
@@ -264,7 +264,7 @@ module _ {T M V B : Type 0} (defers : T → Option ℕ) (left_over : T → Bool)
         (λ op out n e made. ((told op out n made).2.end, follows op out n made)) (λ out. once_at defers left_over c c.stands out)
 
     pub has_stepped : (n : M) (end : ReclaimAll × Settled T) → Steps HasOne shown m (plan c) n end
-        → IsUnderWay end.0 (one n) × (left_of (one n) < left_of (one m)) × (blocks n ≡ blocks m)
+        → IsUnderWay end.0 (one n) × (left_of (one n) < left_of (one m)) × (blocks n ≡ blocks m) × (beside (view n) ≡ beside (view m))
     has_stepped n end st =
         let k = was_made CanOne HasOne shown m (plan c) n end does st in let t = told k.0 k.1 n k.2 in let g = t.2 in
         let same : end ≡ g.end = k.3 g.end (follows k.0 k.1 n k.2) in
@@ -272,10 +272,11 @@ module _ {T M V B : Type 0} (defers : T → Option ℕ) (left_over : T → Bool)
           (g.seen, g.now, is ∙ ap (λ (x : ReclaimAll × Settled T). Some (Reclaims x.0 g.seen g.now)) (sym same)),
           (let before = ap left_of under.2 in let after = ap left_of is in let falls = g.falls in omega (arith, before, after, falls)),
           k.2.0,
+          (tells (view m) (view n) (Reclaims c under.0 under.1) k.0 k.1 under.2 k.2.1).1,
         )
 
   -- a step that makes no operation, once the seat has turned
-  module _ (m : M) (c : ReclaimAll) (v : V) (under : IsUnderWay c (acts v)) (passed : HasPassed acts defers left_over v (view m)) where
+  module _ (m : M) (c : ReclaimAll) (v : V) (under : IsUnderWay c (acts v)) (passed : HasPassed acts defers left_over beside v (view m)) where
     turned : Passes defers left_over (Reclaims c under.0 under.1) passed.1
     turned = subst (λ (x : Alone T). Passes defers left_over x passed.1) (same_some passed.0 (Reclaims c under.0 under.1) (sym passed.2 ∙ under.2)) passed.4
 
@@ -283,11 +284,12 @@ module _ {T M V B : Type 0} (defers : T → Option ℕ) (left_over : T → Bool)
     may_pass = subst (λ (p : Plan T (ReclaimAll × Settled T)). May CanOne HasOne shown m p) (sym turned.3) tt
 
     pub has_passed : (n : M) (end : ReclaimAll × Settled T) → Steps HasOne shown m (plan c) n end
-        → IsUnderWay end.0 (one n) × (left_of (one n) < left_of (acts v)) × (blocks n ≡ blocks m)
+        → IsUnderWay end.0 (one n) × (left_of (one n) < left_of (acts v)) × (blocks n ≡ blocks m) × (beside (view n) ≡ beside v)
     has_passed n end st =
         let k = subst (λ (p : Plan T (ReclaimAll × Settled T)). Steps HasOne shown m p n end) turned.3 st in
         let is : one n ≡ Some (Reclaims turned.0 None turned.2) = ap one k.0 ∙ passed.3 ∙ ap (λ (a : Alone T). Some a) turned.5 in (
           (None, turned.2, is ∙ ap (λ (x : ReclaimAll × Settled T). Some (Reclaims x.0 None turned.2)) (sym k.1)),
           (let before = ap left_of under.2 in let after = ap left_of is in let falls = turned.4 in omega (arith, before, after, falls)),
           ap blocks k.0,
+          ap (λ (x : M). beside (view x)) k.0 ∙ passed.5,
         )

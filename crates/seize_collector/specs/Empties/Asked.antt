@@ -33,14 +33,15 @@ module _ {T V : Type 0} (acts : V → Option (Alone T)) where
       HasTold v (Registers c size) op out w = (end : Register × Advance ℕ) × HasOutcome (register_plan {T = T} c) out end × HasSought size v end w
       HasTold v (Reclaims c seen left) op out w = (a : Alone T) × (acts w ≡ Some a) × ReclaimsOn defers left_over c left out a
 
-      -- an operation of the one that acts tells it how far it has come
-      abbrev pub OneTells : (V → Op T → Out T → V → Type 0) → Type 0
-      OneTells tells = (v w : V) (a : Alone T) (op : Op T) (out : Out T) → acts v ≡ Some a → tells v op out w → HasTold v a op out w
+      -- an operation of the one that acts tells it how far it has come, and what it knows beside that stays
+      abbrev pub OneTells : {B : Type 0} → (V → B) → (V → Op T → Out T → V → Type 0) → Type 0
+      OneTells beside tells =
+          (v w : V) (a : Alone T) (op : Op T) (out : Out T) → acts v ≡ Some a → tells v op out w → HasTold v a op out w × (beside w ≡ beside v)
 
   module _ (defers : T → Option ℕ) (left_over : T → Bool) where
-    -- its machine has taken a step that makes no operation
-    abbrev pub HasPassed : V → V → Type 0
-    HasPassed v w = (a b : Alone T) × (acts v ≡ Some a) × (acts w ≡ Some b) × Passes defers left_over a b
+    -- its machine has taken a step that makes no operation, and what it knows beside that stays
+    abbrev pub HasPassed : {B : Type 0} → (V → B) → V → V → Type 0
+    HasPassed beside v w = (a b : Alone T) × (acts v ≡ Some a) × (acts w ≡ Some b) × Passes defers left_over a b × (beside w ≡ beside v)
 
     module _ {W : Type 0} (holds : Fixed → State T V W → Type 0) where
       module _ (keeps : V → V → W → ℕ → Type 0) where
@@ -51,11 +52,11 @@ module _ {T V : Type 0} (acts : V → Option (Alone T)) where
             → Allows (holds fixed) keeps id v op (tells v op)
 
         -- a step of its machine that makes none is a turn
-        abbrev pub OneMayTurn : Type 0
-        OneMayTurn =
+        abbrev pub OneMayTurn : {B : Type 0} → (V → B) → Type 0
+        OneMayTurn beside =
             (fixed : Fixed) (id : ℕ) (v : V) (c c2 : ReclaimAll) (progress : Settled T) (seen : Option (ℕ × T)) (left : ℕ) → fixed.batch_size < 2 ^ 64
             → acts v ≡ Some (Reclaims c seen left) → (c.stands ≡ at.Over → ⊥) → reclaim_all_plan defers left_over c ≡ Turn (Now (c2, progress))
-            → Turns (holds fixed) keeps id v (HasPassed v)
+            → Turns (holds fixed) keeps id v (HasPassed beside v)
 
       -- what it is about to look at is there, with its value
       abbrev pub OneIsShownAll : Type 0

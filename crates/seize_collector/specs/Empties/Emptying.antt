@@ -25,17 +25,17 @@ abbrev pub left_of : {T : Type 0} → Option (Alone T) → ℕ
 left_of (Some (Reclaims c seen left)) = left
 left_of _ = 0
 
--- it seeks a slot, and stands so with this one
-abbrev pub IsSeeking : {T : Type 0} → ℕ → Registering → ℕ → Option (Alone T) → Type 0
-IsSeeking slot stands size v = v ≡ Some (Registers (seeker_at slot stands) size)
+-- it seeks a slot, stands so with this one, and is to reclaim all by this then
+abbrev pub IsSeeking : {T : Type 0} → ReclaimAll → ℕ → Registering → Option (Alone T) → ReclaimAll → Type 0
+IsSeeking all slot stands v then_all = (v ≡ Some (Registers (seeker_at slot stands) all.batch_size)) × (then_all ≡ all)
 
--- this slot is the next one to be looked at, if there is such a slot; else it reclaims all by this
-abbrev pub SeeksBy : {T : Type 0} → Bool → ReclaimAll → ℕ → ℕ → Option (Alone T) → ReclaimAll → Type 0
-SeeksBy true all size slot v then_all = IsSeeking slot register_at.Look size v × (then_all ≡ all)
-SeeksBy false all size slot v then_all = IsUnderWay all v
+-- this slot is the next one to be looked at, if there is such a slot; else it reclaims all
+abbrev pub SeeksBy : {T : Type 0} → Bool → ReclaimAll → ℕ → Option (Alone T) → ReclaimAll → Type 0
+SeeksBy true all slot v then_all = IsSeeking all slot register_at.Look v then_all
+SeeksBy false all slot v then_all = IsUnderWay all v
 
-abbrev pub Seeks : {T : Type 0} → ReclaimAll → ℕ → ℕ → Option (Alone T) → ReclaimAll → Type 0
-Seeks all size slot v then_all = SeeksBy (nat_lt slot (LAST_SLOT + 1)) all size slot v then_all
+abbrev pub Seeks : {T : Type 0} → ReclaimAll → ℕ → Option (Alone T) → ReclaimAll → Type 0
+Seeks all slot v then_all = SeeksBy (nat_lt slot (LAST_SLOT + 1)) all slot v then_all
 
 -- whether the next step makes no operation
 abbrev pub settling_over : Settling → Bool
