@@ -106,7 +106,7 @@ module _ {K V S : Type 0} (same : K → K → Bool) (hash : S → K → ℕ) (fi
 
   -- What seats knew of maps is so still, and their calls are those of the list.
   pub record AreAsWere (views : ℕ → Option (View K V S)) (doings : List (Doing K V S)) (answers : List (Answer K V)) (scene : Scene K V) : Type 0 where
-    pub maps : (j : ℕ) (v : View K V S) → views j ≡ Some v → KnowsMap hash scene v.map
+    pub maps : (j : ℕ) (v : View K V S) → views j ≡ Some v → KnowsMap same hash scene v.map
     pub fresh : (k : ℕ) × IsFresh scene k × AreNumbered 0 doings k
     pub unended : (o : ℕ) → how_many (is_end_of_owner o) scene.world.log ≡ 0
     pub own : AllByRecursion (IsItsOwn hash) doings
