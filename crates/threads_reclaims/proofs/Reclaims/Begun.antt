@@ -22,7 +22,7 @@ use Rattle.threads_rule.specs.Views.Notes.{SeatIsQuiescent}
 use Rattle.threads_rule.specs.Views.Rule.{MapsWorld, Holds, AreRuns, IsFresh, runs_of}
 use Rattle.threads_rule.specs.Views.Listed.{calls_of}
 use Rattle.threads_rule.specs.declared.view.View.{View}
-use Rattle.threads_reclaims.specs.Reclaims.Rule.{EndsIn, AreAsWere, Reclaiming, ReclaimsAt, IsOne, plainly, inside}
+use Rattle.threads_reclaims.specs.Reclaims.Rule.{EndsIn, AreAsWere, Reclaiming, ReclaimsAt, IsOne, plainly, inside, freed, kept_of, acts_of}
 use Rattle.threads_reclaims.specs.declared.sole.Sole.{Sole}
 use Rattle.threads_reclaims.specs.declared.sole.Sole.TheVariants.{Acts, Left}
 use Rattle.threads_reclaims.proofs.Reclaims.Counted.{ends_in}
@@ -120,7 +120,7 @@ module _ {K V S : Type 0} (same : K → K → Bool) (hash : S → K → ℕ) (fi
         (λ k fresh. subst (λ (x : Scene K V). IsFresh x k) (sym same_scene) fresh) (λ o. ap (λ (x : Scene K V). how_many (is_end_of_owner o) x.world.log) same_scene)
         (view_of before) (are_as_were before h idle))
 
-    pub begins_all : Reclaiming same hash fixed then_
+    begins_all : Reclaiming same hash fixed then_
     begins_all = record {
       course = h.course;
       reached = next;
@@ -141,3 +141,7 @@ module _ {K V S : Type 0} (same : K → K → Bool) (hash : S → K → ℕ) (fi
         other : (i : ℕ) (x : Sole K V S) → i ≢ id → view_of s i ≡ Some x → ReclaimsAt m all x
         other i (Acts b q u) ne at = absurd (ne (one i id q r b a u v at at_id))
         other i (Left u) ne at = tt
+
+    pub begins_goes : (x : Sole K V S) × (w2 : MapsWorld K V S) × Reclaiming same hash fixed (after s m id x w2) × ((left : ℕ) × (acts_of x ≡ Some (Reclaims all None left)))
+        × (kept_of x ≡ freed w)
+    begins_goes = (acting, record { doings = w1.doings ++ doing ∷ []; scene = there }, begins_all, (ends.0, refl), refl)
