@@ -27,7 +27,7 @@ pub fn reclaim_all<K: Eq + Drop, V: Drop, S: Hashes<K>>(
     requires fixed { home.blocks.words.fixed ≡ fixed.now }
     requires sized { fixed.now.batch_size < 2 ^ 64 }
     requires own { seat.base ≡ home.blocks.words.id.views_name }
-    requires rests { SeatIsQuiescent seat.view }
+    requires rests { SeatIsQuiescent seat.view × (seat.view.slot ≡ Rests) }
     ensures fixed { result.0.blocks.words.fixed ≡ fixed.now }
     ensures same { (result.0.blocks.words.words ≡ home.blocks.words.words) × IsLike result.0.blocks.words.id home.blocks.words.id }
     ensures own { (result.1.base ≡ result.0.blocks.words.id.views_name) × (result.1.away ≡ None) }

@@ -11,6 +11,7 @@ use Rattle.many_acts.specs.Acts.Lists.{Course, Reached, LedTo}
 use Rattle.seize_seats.specs.Seats.Errands.{RenewsInto}
 use Rattle.seize_seats.specs.Seats.Start.{WasKnown}
 use Rattle.seize_views.specs.declared.view.Fixed.{Fixed}
+use Rattle.seize_views.specs.declared.view.SlotView.TheVariants.{Rests}
 use Rattle.seize_collector.specs.declared.alone.Alone.TheVariants.{Reclaims}
 use Rattle.threads_rule.specs.Views.Notes.{SeatIsQuiescent}
 use Rattle.threads_rule.specs.Views.Rule.{Holds}
@@ -29,9 +30,11 @@ pub record IsReclaimed {K V S : Type 0} (same : K → K → Bool) (hash : S → 
   pub nothing : AllIsReclaimed fixed.roots reached.0.0.world reached.0.0.maps
 
 module _ {K S : Type 0} (V : Type 0) (same : K → K → Bool) (hash : S → K → ℕ) where
-  -- where each seat has nothing under way the memory may go under this rule, with the same seats
+  -- where each seat has nothing under way the memory may go under this rule, with the same seats; the one that acts then holds no slot
   abbrev pub OneBegins : Type 0
-  OneBegins = (fixed : Fixed) (id : ℕ) (v : View K V S) → RenewsInto SeatIsQuiescent (Holds {V = V} same hash fixed) (HoldsOne same hash fixed) id v Left (one_first fixed v)
+  OneBegins =
+      (fixed : Fixed) (id : ℕ) (v : View K V S) → v.slot ≡ Rests
+      → RenewsInto SeatIsQuiescent (Holds {V = V} same hash fixed) (HoldsOne same hash fixed) id v Left (one_first fixed v)
 
   -- where its machine is over the memory goes back
   abbrev pub OneEnds : Type 0
