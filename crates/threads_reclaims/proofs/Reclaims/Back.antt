@@ -52,11 +52,8 @@ module _ {K V S : Type 0} (same : K → K → Bool) (hash : S → K → ℕ) (fi
 
   abbrev now : Scene K V
   now = step.then_ same hash fixed word s h id r left c seen v at_id m c done last
-
   did = step.did same hash fixed word s h id r left c seen v at_id m c done last
-
   same_end = step.same_end same hash fixed word s h id r left c seen v at_id m c done last
-
   were = step.were_then same hash fixed word s h id r left c seen v at_id m c done last
 
   abbrev Outcome : Type 0

@@ -110,9 +110,8 @@ module _ {K S : Type 0} (V : Type 0) (same : K → K → Bool) (hash : S → K �
       unlent : IsUnlent Leans id s
       unlent j x at leans = subst (λ (o : Option (ℕ × ℕ)). LeansOn o id) (rests_so x (idle j x at)).0 leans
 
-      abbrev seeks : SlotView (Node K V)
+      seeks : SlotView (Node K V)
       seeks = slot_view.Registers (seeker_at 0 register_at.Begin)
-
       k = rows_turn V same hash fixed id v seeks v.began rest.0 rest.1 (subst (λ (x : SlotView (Node K V)). IsNext fixed x seeks) (sym none) refl) s h at_id unlent
 
       is : k.0 ≡ seeking v
@@ -152,7 +151,7 @@ module _ {K S : Type 0} (V : Type 0) (same : K → K → Bool) (hash : S → K �
   one_ends fixed id (Left u) c seen left word e over s h at_id idle = absurd (cc e)
   one_ends fixed id (Acts b r u) c seen left word e over s h at_id idle = by h (at_id ∙ ap (λ (x : Alone (Node K V)). Some (Acts x r u)) (same_some b (Reclaims c seen left) e))
     where
-      abbrev Back : Type 0
+      Back : Type 0
       Back = (w : MapsWorld K V S) × Holds same hash fixed record { memory = s.memory; views = slice_set (map kept_of s.views) id (kept_of (Acts b r u)); world = w }
 
       by : HoldsOne same hash fixed s → view_of s id ≡ Some (Acts (Reclaims c seen left) r u) → Back

@@ -216,9 +216,9 @@ module _ {K V S : Type 0} (same : K → K → Bool) (hash : S → K → ℕ) (fi
       steps_to tells is = (acting2, world2, inr reclaims, λ j k b u o ne ne2 at at2 none. none, is)
 
       has_gone : HasGone told
-      has_gone = by told goes (subst (λ (x : Settled (Node K V)). x ≡ settled.Waits → ⊥) (ap (λ (x : Result). x.1.1) (same_end m2 c2 told st)) (waits (did m2 c2 told st).end (did m2 c2 told st).did.(did m2 c2 told st).told))
+      has_gone = by told goes (subst (λ (x : Settled (Node K V)). x ≡ settled.Waits → ⊥) (ap (λ (x : Result). x.1.1) (same_end m2 c2 told st)) (waits (did m2 c2 told st).end (did m2 c2 told st).did.did.told))
         where
-          waits : (x : Settled (Node K V)) → ReclaimingOutcome scene.world (did m2 c2 told st).did.(did m2 c2 told st).w2 _ (did m2 c2 told st).did.(did m2 c2 told st).lists2 x → x ≡ settled.Waits → ⊥
+          waits : (x : Settled (Node K V)) → ReclaimingOutcome scene.world (did m2 c2 told st).did.did.w2 _ (did m2 c2 told st).did.did.lists2 x → x ≡ settled.Waits → ⊥
           waits settled.Goes is e = cc e
           waits settled.Waits is e = is
           waits (settled.Gave value) is e = cc e
