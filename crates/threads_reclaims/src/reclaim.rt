@@ -10,7 +10,6 @@ use crate::bequests::{Begins, Returns};
 use crate::law::one_reclaims_maps;
 use crate::rule::OneOfMaps;
 use map_tables::{Hashes, Node};
-use seize::rows::ReclaimAll;
 use seize_blocks::{Home, Seat};
 use seize_collector::acts;
 use seize_views::Fixed;
@@ -25,7 +24,6 @@ pub fn reclaim_all<K: Eq + Drop, V: Drop, S: Hashes<K>>(
     fixed: &Fixed,
 ) -> (Home<Node<K, V>, OfMaps<S>>, Seat<Node<K, V>, OfMaps<S>>)
     requires fixed { home.blocks.words.fixed ≡ fixed.now }
-    requires sized { fixed.now.batch_size < 2 ^ 64 }
     requires own { seat.base ≡ home.blocks.words.id.views_name }
     requires rests { SeatIsQuiescent seat.view × (seat.view.slot ≡ Rests) }
     ensures fixed { result.0.blocks.words.fixed ≡ fixed.now }
@@ -36,7 +34,6 @@ pub fn reclaim_all<K: Eq + Drop, V: Drop, S: Hashes<K>>(
 {
     one_reclaims_maps::<K, V, S>();
     let (home, seat) = home.inherits::<OneOfMaps<S>, Begins<K, V, S>>(seat, fixed);
-    let all = ReclaimAll::reclaim_all(fixed.batch_size, fixed.roots);
-    let seat = acts(&home.blocks, seat, all);
+    let seat = acts(&home.blocks, seat, fixed.batch_size, fixed.roots);
     home.inherits::<OfMaps<S>, Returns<K, V, S>>(seat, fixed)
 }

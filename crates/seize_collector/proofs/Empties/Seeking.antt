@@ -1,5 +1,6 @@
 -- What the one knows of his registering once an operation of it is answered: where it stands then, or that reclaiming begins.
-use Rattle.std.specs.Prelude.{◌==◌, Option, Some, None, Result, Ok, Err, nat_lt, if◌then◌else◌}
+use Rattle.std.proofs.lemmas.Bool.{ne_eqb}
+use Rattle.std.specs.Prelude.{◌==◌, ◌||◌, Option, Some, None, Result, Ok, Err, nat_lt, if◌then◌else◌}
 use Rattle.std.proofs.Common.{◌≡◌, ℕ, ◌+◌, Bool, true, false, ◌⊎◌, inl, inr, refl, sym, subst, ap, ◌∙◌, arith}
 use Rattle.seize_words.specs.OneMemory.Op.{Op, Out, Load, Exchange, Room, Found, Exchanged, Roomed}
 use Rattle.seize_words.specs.declared.at.At.TheVariants.{Slot}
@@ -23,6 +24,10 @@ use Rattle.seize_collector.specs.Empties.Emptying.{IsUnderWay, IsSeeking, Seeks,
 pub free_head : (seen : ℕ) → ((seen ≡ NEVER → ⊥) × (seen ≡ FREE)) ⊎ (seen ≡ NEVER) → can_be_taken seen ≡ true
 free_head seen (inl e) = subst (λ (k : ℕ). can_be_taken k ≡ true) (sym e.1) refl
 free_head seen (inr e) = subst (λ (k : ℕ). can_be_taken k ≡ true) (sym e) refl
+
+-- and one that says that its slot is taken
+pub taken_head : (seen : ℕ) → (seen ≡ NEVER → ⊥) → (seen ≡ FREE → ⊥) → can_be_taken seen ≡ false
+taken_head seen not_never not_free = ap (λ (b : Bool). b || (seen == FREE)) (ne_eqb seen NEVER not_never) ∙ ne_eqb seen FREE not_free
 
 module _ {T V X : Type 0} (defers : T → Option ℕ) (left_over : T → Bool) (acts : V → Option (Alone T)) (all : V → ReclaimAll) (beside : V → X) (then_ : V → Op T → Out T → V → Type 0)
     (tells : OneTells acts all defers left_over beside then_) (v w : V) (row : ReclaimAll) where
