@@ -1,5 +1,5 @@
 #!/usr/bin/env python3
-"""Takes each slot of a memory, by the program that `rt ci` has built in crates/guard_bench.
+"""Takes each slot of a memory, by the program that `rt ci` has built in crates/benches.
 
     .ci/slots.py [PROGRAM]    exits 1 where a turn comes to anything else
 
@@ -17,7 +17,7 @@ ASKED = f"slots 1 {TURNS} 0"
 
 
 def main():
-    program = sys.argv[1] if len(sys.argv) > 1 else f"{TOP}/crates/guard_bench/out/guard_bench"
+    program = sys.argv[1] if len(sys.argv) > 1 else f"{TOP}/crates/benches/out/benches"
     ran = subprocess.run([program], input=f"{ASKED}\n", stdout=subprocess.PIPE, stderr=subprocess.DEVNULL, text=True, timeout=900, check=False)
     if ran.returncode or ran.stdout != f"{ASKED}: {TURNS}\n":
         sys.exit(f"slots: it ended with {ran.returncode}, and said {ran.stdout!r}")

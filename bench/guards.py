@@ -3,8 +3,8 @@
 
     python3 bench/guards.py [PROGRAM] [--kinds NAME ..] [--threads N ..] [--turns N] [--rounds N] [--numbers N] [--instructions]
 
-PROGRAM is the built program. Without it the one is taken that `rt run` has built in crates/guard_bench
-(`cd crates/guard_bench && rt run < stdin`), in its folder out/. bench/guards.rs, the same turns on the stand-in, is compiled
+PROGRAM is the built program. Without it the one is taken that `rt run` has built in crates/benches
+(`cd crates/benches && rt run < stdin`), in its folder out/. bench/guards.rs, the same turns on the stand-in, is compiled
 by rustc into a temporary folder.
 
 A row of the table has a kind of turn and a number of threads, each of which takes so many turns; for each program the median
@@ -25,7 +25,7 @@ import tempfile
 
 import maps
 
-BUILT = os.path.join(maps.ROOT, "crates", "guard_bench", "out", "guard_bench")
+BUILT = os.path.join(maps.ROOT, "crates", "benches", "out", "benches")
 SOURCE = os.path.join(maps.ROOT, "bench", "guards.rs")
 
 KINDS = ["enter", "see", "put", "put_apart"]
@@ -85,7 +85,7 @@ def main():
     parser.add_argument("--instructions", action="store_true")
     given = parser.parse_args()
     if not os.access(given.program, os.X_OK):
-        sys.exit(f"there is no program {given.program}: build it by `cd crates/guard_bench && rt run < stdin`")
+        sys.exit(f"there is no program {given.program}: build it by `cd crates/benches && rt run < stdin`")
     with tempfile.TemporaryDirectory() as folder:
         stand_in = maps.compiled(SOURCE, folder)
         if stand_in is None:

@@ -1,4 +1,4 @@
-//! Times guards of sections on threads, as crates/guard_bench does on Rattle's, on a stand-in for `seize`: its scheme, written from what its documents tell of
+//! Times guards of sections on threads, as crates/benches does on Rattle's, on a stand-in for `seize`: its scheme, written from what its documents tell of
 //! it, with sequentially consistent entering (a slot a thread, batches, entries on lists of slots, a count of each batch).
 
 use std::cell::{Cell, UnsafeCell};

@@ -3,8 +3,8 @@
 
     python3 bench/maps.py [PROGRAM] [--keys N ..] [--kinds NAME ..] [--turns N] [--runs N]
 
-PROGRAM is the built program. Without it the one is taken that `rt run` has built in crates/map_bench
-(`cd crates/map_bench && rt run < stdin`), in its folder out/. Where there is a rustc, bench/maps.rs is compiled into
+PROGRAM is the built program. Without it the one is taken that `rt run` has built in crates/benches
+(`cd crates/benches && rt run < stdin`), in its folder out/. Where there is a rustc, bench/maps.rs is compiled into
 a temporary folder, too: the same turns on Rust's map, with the same keys and the same hash function.
 
 A row of the table has a kind of call and a number of keys; for each map the median of the runs, in nanoseconds a turn;
@@ -23,7 +23,7 @@ import sys
 import tempfile
 
 ROOT = os.path.dirname(os.path.dirname(os.path.abspath(__file__)))
-BUILT = os.path.join(ROOT, "crates", "map_bench", "out", "map_bench")
+BUILT = os.path.join(ROOT, "crates", "benches", "out", "benches")
 SOURCE = os.path.join(ROOT, "bench", "maps.rs")
 
 KINDS = ["hit", "miss", "insert", "replace", "in_turn", "window", "iterate"]
@@ -101,7 +101,7 @@ def main():
     parser.add_argument("--runs", type=int, default=5)
     given = parser.parse_args()
     if not os.access(given.program, os.X_OK):
-        sys.exit(f"there is no program {given.program}: build it by `cd crates/map_bench && rt run < stdin`")
+        sys.exit(f"there is no program {given.program}: build it by `cd crates/benches && rt run < stdin`")
     print("load: " + " ".join(f"{it:.1f}" for it in os.getloadavg()))
     with tempfile.TemporaryDirectory() as folder:
         maps = {"owned": given.program, "std": given.program}

@@ -1,4 +1,4 @@
-//! Times calls on the hash map of Rust's standard library, as crates/map_bench does on Rattle's, with the same keys and the same hash function.
+//! Times calls on the hash map of Rust's standard library, as crates/benches does on Rattle's, with the same keys and the same hash function.
 
 use std::collections::HashMap;
 use std::hash::{BuildHasherDefault, Hasher};

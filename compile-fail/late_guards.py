@@ -21,9 +21,9 @@ ghost use Rattle.std.specs.Prelude.{None, false};
 use seize::rows::{Defers, LeftOver};
 use seize_blocks::Home;
 use seize_collector::Collector;
-use seize_guards::{Desk, DeskGuard, Place};
+use seize_guards::{Desk, DeskGuard};
 use seize_shared::{
-    Caller, Fixed, Guard, LocalGuard, OfRows, Owned, OwnedGuard, Pass, Registration, RootGuard, Shared, Unlinked,
+    Before, Caller, Fixed, Guard, LocalGuard, OfRows, Owned, OwnedGuard, Pass, Registration, RootGuard, Shared, Unlinked,
 };
 use std::io;
 use std::thread;
@@ -68,7 +68,7 @@ FINDS = ["let Ok(Some(found)) = guard.protect_by(0, pass) else { return false; }
 # of whom a guard is entered: the name, the function's parameter, how, and how a value is lent
 ENTERS = [
     ("", "(registration: &mut Registration<'_, Plain>)", "let mut guard = registration.enter();", SEES),
-    ("desk_", "<B: Place>(desk: &Desk<'_, Plain, B>)", "let Ok(mut guard) = desk.enter() else { return false; };", SEES),
+    ("desk_", "(desk: &Desk<'_, Plain>)", "let Ok(mut guard) = desk.enter() else { return false; };", SEES),
     ("pass_", "(registration: &mut Registration<'_, Plain>, pass: &mut Pass<Plain>)", "let mut guard = registration.enter();", FINDS),
     ("owned_pass_", "(collector: &Shared<'_, Plain>, pass: &mut Pass<Plain>)", "let Ok(mut guard) = collector.enter_owned() else { return false; };", FINDS),
 ]
@@ -86,16 +86,20 @@ SENT = [
     ("guard_sent", "guard: LocalGuard<'_, '_, Plain>", "move || drop(guard)", False),
     ("guard_shared", "guard: &LocalGuard<'_, '_, Plain>", "|| guard.thread_id()", False),
     ("registration_sent", "registration: Registration<'_, Plain>", "move || drop(registration)", False),
-    ("desk_sent", "desk: Desk<'_, Plain, B>", "move || drop(desk)", True),
-    ("desk_shared", "desk: &Desk<'_, Plain, B>", "|| desk.enter().is_ok()", False),
-    ("desk_guard_sent", "guard: DeskGuard<'_, '_, Plain, B>", "move || drop(guard)", False),
+    ("desk_sent", "desk: Desk<'_, Plain>", "move || drop(desk)", True),
+    ("desk_shared", "desk: &Desk<'_, Plain>", "|| desk.enter().is_ok()", False),
+    ("desk_guard_sent", "guard: DeskGuard<'_, '_, Plain>", "move || drop(guard)", False),
 ]
 STAYS = {"unsatisfied-bound"}
 # who has a collector that is to be emptied
 EMPTIES = "collector.reclaim_all();"
 HAD = [("registration", "collector.register().ok()"), ("guard", "collector.enter_owned().ok()"), ("shared", "collector.shared()")]
 # blocks, and how they are spent
-SPENT = [("owned", "owned: Owned<'_, Plain>", "drop(owned.into_value());"), ("unlinked", "old: Unlinked<'_, Plain>", "old.kept();")]
+SPENT = [
+    ("owned", "owned: Owned<'_, Plain>", "drop(owned.into_value());"),
+    ("before", "before: Before<'_, Plain>", "if let Some(old) = before.block() { old.kept(); }"),
+    ("unlinked", "old: Unlinked<'_, Plain>", "old.kept();"),
+]
 LINEAR = {"linear-value-let-go"}
 MAIN = """
 fn main(rt: HostRuntime) -> io::Result<()> {
@@ -127,7 +131,7 @@ def sending():
     """The program of threads, and the lines where they begin, by the names of their functions: those that may first."""
     text, right, wrong = HEAD, {}, {}
     for of, takes, does, may in SENT:
-        text += f"\nfn {of}<B: Place + Send, R: Threads + Sync>(rt: &R, {takes}) {{\n    thread::join(rt, {does}, || ());\n}}\n"
+        text += f"\nfn {of}<R: Threads + Sync>(rt: &R, {takes}) {{\n    thread::join(rt, {does}, || ());\n}}\n"
         (right if may else wrong)[of] = text[: text.rindex("thread::join")].count("\n") + 1
     return text + MAIN % "            drop(registration);\n", right, wrong
 

@@ -4,8 +4,8 @@
     refusals/each_request.py [PROGRAM]    exits 1 if a run ends or prints otherwise, and then says which request was refused
 
 PROGRAM is built, with its wanted output in a file `stdout` beside its folder out/. Without it, it is each of those that `rt ci` has built in
-crates/papaya_seq_refusals, crates/shared_refusals and crates/shared_map_refusals, and nothing is printed where all is well. Its requests are calls of malloc and realloc, so a library is
-put before the C library that refuses one of them.
+crates/papaya_seq_tests, crates/seize_collector_tests and crates/shared_map_refusals, and nothing is printed where all is well. Its requests are calls of malloc
+and realloc, so a library is put before the C library that refuses one of them.
 """
 import os
 import shutil
@@ -14,7 +14,7 @@ import sys
 import tempfile
 
 TOP = os.path.dirname(os.path.dirname(os.path.abspath(__file__)))
-PROGRAMS = [f"{TOP}/crates/{name}/out/{name}" for name in ("papaya_seq_refusals", "shared_refusals", "shared_map_refusals")]
+PROGRAMS = [f"{TOP}/crates/{name}/out/{name}" for name in ("papaya_seq_tests", "seize_collector_tests", "shared_map_refusals")]
 # refuses the request with the number in REFUSED, and then writes a byte to the open file with the number in TOLD
 REFUSING = r"""
 extern void *__libc_malloc(unsigned long);
@@ -33,7 +33,7 @@ void *realloc(void *old, unsigned long size) { return refused() ? 0 : __libc_rea
 """
 # more requests than the program makes: of one that goes over what asks for no memory so many times, fewer than that
 MOST = 100_000
-ROUNDS = {"shared_refusals": 1_000}
+ROUNDS = {"seize_collector_tests": 1_000}
 
 
 def compiler():

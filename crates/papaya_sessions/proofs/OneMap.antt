@@ -4,13 +4,15 @@ use Rattle.std.proofs.Common.{◌≡◌, ℕ, Bool, refl, sym, subst, ap, ◌∙
 use Rattle.std.proofs.lemmas.Bool.{ltb-true}
 use Rattle.std.specs.declared.hash.Hash as hashing
 use Rattle.map_tables.specs.declared.node.Node.{Node}
-use Rattle.papaya_sessions.specs.OneMap.{MapCameToHave, MapCounted, MapGaveUp, MapGaveUpNamed, MapHad, MapHadOne, MapHadRoom, MapHasNamed, MapLacked, MapLookedEmpty, MapWasCleared, MapWasShown, MapWasSifted, WasRefused}
+use Rattle.papaya_sessions.specs.Asked.{BecameSo, HasRemovedIf, HasTriedWith, MapComputed, MapGaveUpIf, MapHasNamedWith, MapNamed, MapTold}
+use Rattle.papaya_sessions.specs.OneMap.{MapCameToHave, MapCounted, MapGaveUp, MapGaveUpNamed, MapHad, MapHadBefore, MapHadOne, MapHadRoom, MapHasNamed, MapLacked, MapLookedEmpty, MapWasCleared, MapWasShown, MapWasSifted, WasRefused}
 use Rattle.papaya_sessions.specs.Sessions.{HasGot}
 use Rattle.papaya_sessions.specs.declared.session.Session.{Session}
 use Rattle.play_moves.proofs.OneHistory.Calls.{found_none, found_value, has_inserted, has_looked, has_missed, has_one, has_refused, has_removed, has_removed_pair, has_tried}
+use Rattle.play_moves.proofs.OneHistory.Named.{TellsOf, has_aborted, has_computed_pair, has_kept, has_one_with, has_removed_if_pair, has_replaced_pair}
 use Rattle.play_moves.proofs.OneHistory.Whole.{has_cleared, has_counted, has_made_room, has_retained, has_walked}
-use Rattle.play_moves.specs.OneHistory.Calls.{HasInserted, HasLooked, HasOne, HasRemoved as HasGivenUp, HasRemovedPair, HasTried as HasLacked}
-use Rattle.play_moves.specs.Given.ActsActs.{ContainsKey, Count, Get, GoOver, Insert, MakeRoom, Remove, TryToInsert, Wanted}
+use Rattle.play_moves.specs.OneHistory.Calls.{Became, CameIn, GaveWay, TookItsPlace, WentOut, HasAborted, HasInserted, HasLooked, HasOne, HasOneWith, HasRemoved as HasGivenUp, HasRemovedPair, HasTried as HasLacked}
+use Rattle.play_moves.specs.Given.ActsActs.{Compute, ContainsKey, Count, Get, GoOver, Insert, MakeRoom, Remove, RemoveIf, TryToInsert, TryToInsertWith, Wanted}
 use Rattle.play_moves.specs.Given.ErrandsCalling.{is_put, outcome_of}
 use Rattle.play_moves.specs.Given.ErrandsLooking.{HasRun, found_of}
 use Rattle.play_moves.specs.Given.RawDeclared.machines.answer.KeyAnswer.TheVariants as says
@@ -23,20 +25,29 @@ use Rattle.play_moves.specs.Given.ViewsDeclared.view.BegunCall.{BegunCall}
 use Rattle.play_moves.specs.Given.ViewsDeclared.view.View.{View}
 use Rattle.play_moves.specs.Given.ViewsRule.{section_of}
 use Rattle.seize_words.specs.declared.fault.Fault.{Fault}
+use Rattle.seize_words.specs.declared.operation.Operation.{Operation}
 use Rattle.seize_words.proofs.General.{same_some}
-use Rattle.threads_updates.specs.Given.CallsAnswers.{HasFoundEmpty, HasMeasured, HasOneThere, HasRemoved, HasReserved, HasStored, HasSweptAll, HasTakenOut, HasTried, clears, is_removed, is_replaced, removed_by}
+use Rattle.threads_updates.specs.Given.CallsAnswers.{HasFoundEmpty, HasMeasured, HasOneThere, HasRemoved, HasReplaced, HasReserved, HasStored, HasSweptAll, HasTakenOut, HasTried, clears, is_removed, is_replaced, removed_by, replaced_by}
 use Rattle.threads_updates.specs.Given.CallersDeclared.caller.MapCaller.{MapCaller}
 use Rattle.threads_updates.specs.Given.CallsShown.{IsPairLent}
 use Rattle.threads_updates.specs.Given.SeizeViewsDeclared.view.Fixed.{Fixed}
 use Rattle.threads_updates.specs.Given.SeizeViewsDeclared.view.Has.TheVariants.{Nothing}
 use Rattle.threads_updates.specs.Given.SeizeViewsDeclared.view.SlotView.TheVariants.{Inside}
 use Rattle.threads_updates.specs.Given.CallsDeclared.session.SessionBase.{SessionBase}
+use Rattle.threads_updates.specs.Updated.{HasComputed, HasUpdated, IsLeft, IsSo}
+use Rattle.threads_updates.specs.declared.changing.ComputedPair.{ComputedPair}
+use Rattle.threads_updates.specs.declared.changing.ComputedPair.TheVariants as computed
 use Rattle.threads_sweeps.specs.Swept.{HasGone, HasShown, HasSifted, retains, walks}
 
 -- an answer that names a removed pair tells nothing else
 removed_one : (answer : Answer) (word : ℕ) → removed_by answer ≡ Some word → answer ≡ said.Key (says.Removed word)
 removed_one (said.Key (says.Removed one)) word is = ap (λ (x : ℕ). said.Key (says.Removed x)) (same_some one word is)
 removed_one _ word is = absurd (cc is)
+
+-- and so does one that names a pair that was replaced
+replaced_one : (answer : Answer) (old : ℕ) → replaced_by answer ≡ Some old → (new : ℕ) × (answer ≡ said.Key (says.Replaced old new))
+replaced_one (said.Key (says.Replaced one new)) old is = (new, ap (λ (x : ℕ). said.Key (says.Replaced x new)) (same_some one old is))
+replaced_one _ old is = absurd (cc is)
 
 -- what was told is so of what is told on, an answer or a fault
 pub told_then : {A E : Type 0} (told : Result A E) (x y : A) (So : A → Type 0) → told ≡ Ok x → x ≡ y → IfOk told So → So y
@@ -105,6 +116,18 @@ module _ {K V S : Type 0} {h : hashing.Ghosts K} (same : K → K → Bool) (hash
         is_replaced (λ old new. refl) (λ new. refl)),
   )
 
+  -- the pair that is lent by the word of the one that it has replaced was that
+  pub had_before : {A : Type 0} (word : A → ℕ) (key : K) (value : V) (old : Option A) → HasReplaced same hash key value (option_map word old) v w
+      → IfSome old (λ x. MapHadBefore same hash key value (word x) c n)
+  had_before word key value None replaced = tt
+  had_before word key value (Some x) (answer, run, names) = (
+    (answer, run, names),
+    λ pair lent.
+        let one = replaced_one answer (word x) names in
+        has_replaced_pair same hash fixed small n.seat.id run.1 w run.0 (begun (Insert key value) (outcome_of (Ok answer)) run) v.calls (stays ∙ run.2) (section run.1 run.3) run.4 key value (word x) one.0
+        pair.0 pair.1 refl (ap (λ (a : Answer). outcome_of {T = Node K V} (Ok a)) one.1) lent.0,
+  )
+
   pub lacked : (key : K) (value : V) (stored : Bool) → HasTried same hash key value stored v w → MapLacked same hash key value stored c n
   lacked key value stored (answer, run, so) = (
     (answer, run, so),
@@ -142,6 +165,55 @@ module _ {K V S : Type 0} {h : hashing.Ghosts K} (same : K → K → Bool) (hash
   pub has_named : (key : K) (value : V) (word : ℕ) → HasOneThere same hash key value word v w → MapHasNamed same hash key value word c n
   has_named key value word there = (there, λ pair lent. one_there key value word pair.0 pair.1 there lent)
 
+  -- and so it is where a closure was asked: whether to remove the pair,
+  pub gave_up_if : (key : K) (taken : Option ℕ) → HasRemovedIf same hash key taken c n → MapGaveUpIf same hash key taken c n
+  gave_up_if key None (answer, run, names) = (
+    (answer, run, names),
+    has_kept same hash fixed small n.seat.id run.1 w run.0 (begun (RemoveIf key) (outcome_of (Ok answer)) run) v.calls (stays ∙ run.2) (section run.1 run.3) run.4 key answer refl refl
+        (λ a. removed_by a ≡ None) (λ word is. absurd (cc is)) names,
+  )
+  gave_up_if key (Some word) (answer, run, names) = (
+    (answer, run, names),
+    λ pair lent.
+        has_removed_if_pair same hash fixed small n.seat.id run.1 w run.0 (begun (RemoveIf key) (outcome_of (Ok answer)) run) v.calls (stays ∙ run.2) (section run.1 run.3) run.4 key word pair.0 pair.1 refl
+        (ap (λ (a : Answer). outcome_of {T = Node K V} (Ok a)) (removed_one answer word names)) lent.0,
+  )
+
+  -- for a value where the key is missing,
+  pub one_with : (key : K) (stored : Bool) (word : ℕ) (found : K) (its : V) → HasTriedWith same hash key stored word c n → IsPairLent same hash n word (found, its)
+      → HasOneWith same hash fixed n.seat.id w key (found, its)
+  one_with key stored word found its (answer, run, so, names) lent =
+      has_one_with same hash fixed small n.seat.id run.1 w run.0 (begun (TryToInsertWith key) (outcome_of (Ok answer)) run) v.calls (stays ∙ run.2) (section run.1 run.3) run.4 key answer word found its refl
+      refl names lent.0
+
+  pub has_named_with : (key : K) (stored : Bool) (word : ℕ) → HasTriedWith same hash key stored word c n → MapHasNamedWith same hash key stored word c n
+  has_named_with key stored word tried = (tried, λ pair lent. one_with key stored word pair.0 pair.1 tried lent)
+
+  -- and what is to be done.
+  module _ {T : Type 0} (Is : K → Type 0) (Gives : Option (K × V) → Operation V T → Type 0) where
+    all_told : (key : K) (done : ComputedPair T) (answer : Answer) → IsSo done answer → ((became : Became) (word : ℕ) → TellsOf became word answer → BecameSo same hash key became word n)
+        → (IsLeft answer → HasAborted same hash fixed n.seat.id w key) → MapTold same hash key done n
+    all_told key (computed.Inserted new) (said.Key (says.Stored word)) is by none = by CameIn new.word is
+    all_told key (computed.Updated old new) (said.Key (says.Replaced was put)) is by none = (by GaveWay old.word is.0, by TookItsPlace new.word is.1)
+    all_told key (computed.Removed old) (said.Key (says.Removed word)) is by none = by WentOut old.word is
+    all_told key (computed.Aborted end) answer is by none = none is
+    all_told key _ _ is by none = absurd is
+
+    pub has_computed : (done : ComputedPair T) → HasComputed same hash Is Gives done v w → MapComputed same hash Is Gives done c n
+    has_computed done has =
+        let key = has.told.0 in let u = has.before in let run = has.told.2.ran in let there = has.told.2.stays in
+        let its : BegunCall K V = record { began = machine_for same hash run.0 run.1 (Compute key); told = outcome_of (Ok has.answer) } in
+        let within = ap (λ s. section_of s.1 s.0) there.slot ∙ run.3 in (
+          has,
+          all_told key done has.answer has.so
+              (λ became word tells pair lent.
+              has_computed_pair same hash fixed small n.seat.id run.1 w run.0 its u.calls (there.map ∙ run.2) within run.4 became key has.answer word pair.0 pair.1 refl refl tells lent.0)
+              (has_aborted same hash fixed small n.seat.id run.1 w run.0 its u.calls (there.map ∙ run.2) within run.4 key has.answer refl refl IsLeft (λ new is. is) (λ old new is. is) (λ word is. is)),
+        )
+
+    pub has_told : (named : Option ℕ) → HasUpdated same hash Is Gives named v w → MapNamed same hash Is Gives named c n
+    has_told named (done, has, is) = (done, has_computed done has, is)
+
   pub not_stored : (key : K) (value : V) (fault : Fault) → HasRun same hash (Insert key value) (outcome_of (Err fault)) v w → WasRefused same hash (Insert key value) fault c n
   not_stored key value fault run = (
     run,
@@ -152,6 +224,19 @@ module _ {K V S : Type 0} {h : hashing.Ghosts K} (same : K → K → Bool) (hash
   not_tried key value fault run = (
     run,
     has_refused same hash fixed small n.seat.id run.1 w run.0 (begun (TryToInsert key value) (outcome_of (Err fault)) run) v.calls (stays ∙ run.2) (section run.1 run.3) run.4 (TryToInsert key value) refl fault refl refl,
+  )
+
+  pub not_removed_if : (key : K) (fault : Fault) → HasRun same hash (RemoveIf key) (outcome_of (Err fault)) v w → WasRefused same hash (RemoveIf key) fault c n
+  not_removed_if key fault run = (
+    run,
+    has_refused same hash fixed small n.seat.id run.1 w run.0 (begun (RemoveIf key) (outcome_of (Err fault)) run) v.calls (stays ∙ run.2) (section run.1 run.3) run.4 (RemoveIf key) refl fault refl refl,
+  )
+
+  pub not_made : (key : K) (fault : Fault) → HasRun same hash (TryToInsertWith key) (outcome_of (Err fault)) v w → WasRefused same hash (TryToInsertWith key) fault c n
+  not_made key fault run = (
+    run,
+    has_refused same hash fixed small n.seat.id run.1 w run.0 (begun (TryToInsertWith key) (outcome_of (Err fault)) run) v.calls (stays ∙ run.2) (section run.1 run.3) run.4 (TryToInsertWith key) refl fault
+        refl refl,
   )
 
   pub not_removed : (key : K) (fault : Fault) → HasRun same hash (Remove key) (outcome_of (Err fault)) v w → WasRefused same hash (Remove key) fault c n

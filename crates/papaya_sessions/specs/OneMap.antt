@@ -1,10 +1,10 @@
 -- What a session has done by one call more, and that its answer is so in one finite map, at a moment of that call: by the caller that it was, and the one that it is.
 use Rattle.std.specs.Prelude.{◌≡◌, ◌==◌, ℕ, Bool, true, false, Option, Some, None, Ok, option_map}
-use Rattle.play_moves.specs.OneHistory.Calls.{FoundNone, FoundValue, HasInserted, HasLooked, HasOne, HasRefused, HasRemoved as HasGivenUp, HasRemovedPair, HasTried as HasLacked}
+use Rattle.play_moves.specs.OneHistory.Calls.{FoundNone, FoundValue, HasInserted, HasLooked, HasOne, HasRefused, HasRemoved as HasGivenUp, HasRemovedPair, HasReplacedPair, HasTried as HasLacked}
 use Rattle.play_moves.specs.OneHistory.Whole.{HasCleared, HasCounted, HasMadeRoom, HasRetained, HasWalked}
 use Rattle.play_moves.specs.Given.ActsActs.{Wanted}
 use Rattle.papaya_sessions.specs.Sessions.{HasBeenRefused, HasGot, HasSought}
-use Rattle.threads_updates.specs.Given.CallsAnswers.{HasMeasured, HasOneThere, HasRemoved, HasReserved, HasStored, HasSweptAll, HasTakenOut, HasTried}
+use Rattle.threads_updates.specs.Given.CallsAnswers.{HasMeasured, HasOneThere, HasRemoved, HasReplaced, HasReserved, HasStored, HasSweptAll, HasTakenOut, HasTried}
 use Rattle.threads_updates.specs.Given.CallersDeclared.caller.MapCaller.{MapCaller}
 use Rattle.threads_updates.specs.Given.CallsShown.{IsPairLent}
 use Rattle.threads_sweeps.specs.Swept.{HasShown, HasSifted}
@@ -24,6 +24,12 @@ module _ {K V S : Type 0} (same : K → K → Bool) (hash : S → K → ℕ) whe
   abbrev pub MapCameToHave : K → V → Bool → MapCaller K V S → MapCaller K V S → Type 0
   MapCameToHave key value replaced c n =
       HasStored same hash key value replaced c.seat.view n.seat.view × HasInserted same hash n.blocks.now.words.fixed n.seat.id n.seat.view key value replaced
+
+  -- and it names the other one by this word: it is what it lends by that
+  abbrev pub MapHadBefore : K → V → ℕ → MapCaller K V S → MapCaller K V S → Type 0
+  MapHadBefore key value word c n =
+      HasReplaced same hash key value (Some word) c.seat.view n.seat.view
+      × ((pair : K × V) → IsPairLent same hash n word pair → HasReplacedPair same hash n.blocks.now.words.fixed n.seat.id n.seat.view key value pair)
 
   -- it has tried to, and its map had no pair of this key, and came to have this one, or it had another one
   abbrev pub MapLacked : K → V → Bool → MapCaller K V S → MapCaller K V S → Type 0

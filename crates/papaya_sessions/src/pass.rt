@@ -140,6 +140,13 @@ impl<'m, K: Eq + Hash + Drop, V: Drop, S: Hashes<K>> Session<'m, K, V, S> {
 }
 
 impl<'g, 'm, K: Eq + Hash + Drop, V: Drop, S: Hashes<K>> HashMapRef<'g, 'm, K, V, S> {
+    /// Returns the session under which it looks keys up.
+    pub fn session(&self) -> &'g Session<'m, K, V, S>
+        ensures { result.now ≡ self.now.session.now }
+    {
+        self.session
+    }
+
     /// Looks a key up, and lends its pair, if the map has one, for as long as the session is lent, whoever replaces or removes the pair meanwhile. How many steps that takes
     /// is up to the others.
     pub fn get_key_value<R: Wait, Q: Form<K, S>>(

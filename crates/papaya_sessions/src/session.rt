@@ -3,12 +3,12 @@ ghost use Rattle.std.specs.Prelude.{◌≡◌, ◌^◌, [], true, IfOk, IfErr, I
 ghost use Rattle.std.specs.Borrow.{sem};
 ghost use Rattle.std.specs.Fn.{FnOnceReturns};
 ghost use Rattle.std.specs.Iterator.{IsFiniteIterable};
-ghost use Rattle.papaya_sessions.specs.Asked.{HasRemovedIf, HasTriedWith};
+ghost use Rattle.papaya_sessions.specs.Asked.{MapGaveUpIf, MapHasNamedWith};
 ghost use Rattle.papaya_sessions.specs.Extended.{Extends, PutsPair, RefusesPair, pair_of};
-ghost use Rattle.papaya_sessions.specs.OneMap.{MapCameToHave, MapCounted, MapGaveUp, MapGaveUpNamed, MapHad, MapHadOne, MapHadRoom, MapHasNamed, MapLacked, MapLookedEmpty, MapWasCleared, MapWasShown, MapWasSifted, WasRefused};
-ghost use Rattle.papaya_sessions.specs.Sessions.{HasBeenRefused, HasMadeNone};
+ghost use Rattle.papaya_sessions.specs.OneMap.{MapCameToHave, MapCounted, MapGaveUp, MapGaveUpNamed, MapHad, MapHadBefore, MapHadOne, MapHadRoom, MapHasNamed, MapLacked, MapLookedEmpty, MapWasCleared, MapWasShown, MapWasSifted, WasRefused};
+ghost use Rattle.papaya_sessions.specs.Sessions.{HasMadeNone};
 ghost use Rattle.play_moves.specs.Given.ActsActs.{Insert, MakeRoom, Remove, RemoveIf, TryToInsert, TryToInsertWith};
-ghost use Rattle.threads_updates.specs.Given.CallsAnswers.{CameBack, HasReplaced, clears, has_stored};
+ghost use Rattle.threads_updates.specs.Given.CallsAnswers.{CameBack, clears, has_stored};
 ghost use Rattle.threads_updates.specs.Given.CallsShown.{IsPairLent, Shows};
 ghost use Rattle.threads_updates.specs.Given.SeizeViewsDeclared.view.Has.TheVariants.{Nothing};
 ghost use Rattle.threads_updates.specs.Given.SeizeViewsDeclared.view.SlotView.TheVariants.{Inside, Rests};
@@ -122,7 +122,7 @@ impl<'m, K: Eq + Hash + Drop, V: Drop, S: Hashes<K>> Session<'m, K, V, S> {
     ) -> Result<Option<Found>, Refused<K, V>>
         ensures keeps { KeepsMap self.old self.new }
         ensures stored { IfOk result (λ old. MapCameToHave K.eq S.hash key value (is_some old) self.old.base.caller self.new.base.caller) }
-        ensures replaced { IfOk result (λ old. HasReplaced K.eq S.hash key value (option_map (λ found. found.word) old) self.old.base.caller.seat.view self.new.base.caller.seat.view) }
+        ensures before { IfOk result (λ old. IfSome old (λ found. MapHadBefore K.eq S.hash key value found.word self.old.base.caller self.new.base.caller)) }
         ensures shown { IfOk result (λ old. IfSome old (λ found. Shows self.new.base.caller found.word)) }
         ensures refused { IfErr result (λ r. WasRefused K.eq S.hash (Insert key value) r.fault self.old.base.caller self.new.base.caller) }
         ensures back { IfErr result (λ r. (r.key ≡ key) × (r.value ≡ value)) }
@@ -177,39 +177,39 @@ impl<'m, K: Eq + Hash + Drop, V: Drop, S: Hashes<K>> Session<'m, K, V, S> {
         self.base.pair(found).1
     }
 
-    /// Stores a value that is made, if the map has no pair of this key yet, and answers whether it was stored. The closure is called where the key was missing; if another
-    /// one has stored a pair meanwhile, what it has made is dropped. The faults are `Fault::Capacity` and `Fault::Memory`: nothing was stored then, and the key is dropped.
+    /// Stores a value that is made, if the map has no pair of this key yet, names the pair that is there then, and answers whether it was stored: `value` and `pair` lend it until
+    /// the next call. The closure is called where the key was missing; if another one has stored a pair meanwhile, what it has made is dropped. The faults are `Fault::Capacity` and
+    /// `Fault::Memory`: nothing was stored then, and the key is dropped.
     pub fn try_insert_with<R: Wait, F: FnOnce() -> V>(
         &mut self,
         rt: &R,
         key: K,
         make: F,
-    ) -> Result<bool, Fault>
+    ) -> Result<(Found, bool), Fault>
         requires callable { F.pre make }
         ensures keeps { KeepsMap self.old self.new }
-        ensures tried { IfOk result (λ stored. HasTriedWith K.eq S.hash key stored self.old.base.caller self.new.base.caller) }
+        ensures tried { IfOk result (λ told. MapHasNamedWith K.eq S.hash key told.1 told.0.word self.old.base.caller self.new.base.caller) }
+        ensures shown { IfOk result (λ told. Shows self.new.base.caller told.0.word) }
         ensures asked { HasAsked K.eq S.hash (MakingSays (FnOnceReturns F.FnOnce make tt)) (TryToInsertWith key) self.old.base.caller.seat.view self.new.base.caller.seat.view }
-        ensures refused { IfErr result (λ fault. HasBeenRefused K.eq S.hash (TryToInsertWith key) fault self.old.base.caller self.new.base.caller) }
+        ensures refused { IfErr result (λ fault. WasRefused K.eq S.hash (TryToInsertWith key) fault self.old.base.caller self.new.base.caller) }
     {
-        match self.base.try_insert_with(rt, key, make) {
-            Ok((_, stored)) => Ok(stored),
-            Err(fault) => Err(fault),
-        }
+        self.base.try_insert_with(rt, key, make)
     }
 
-    /// Removes the pair of a key, if the test says yes of it, and answers whether it has. The test is called again where another pair of the key has taken the place of the
-    /// first. The faults are `Fault::Capacity` and `Fault::Memory`: no pair was removed then.
+    /// Removes the pair of a key, if the test says yes of it, and names it, if it has: `value` and `pair` lend it until the next call. The test is called again where another pair
+    /// of the key has taken the place of the first. The faults are `Fault::Capacity` and `Fault::Memory`: no pair was removed then.
     pub fn remove_if<R: Wait, Q: Form<K, S>, F: Fn(&K, &V) -> bool>(
         &mut self,
         rt: &R,
         key: &Q,
         test: F,
-    ) -> Result<bool, Fault>
+    ) -> Result<Option<Found>, Fault>
         requires callable { F.IsAlwaysCallable test }
         ensures keeps { KeepsMap self.old self.new }
-        ensures removed { IfOk result (λ removed. HasRemovedIf K.eq S.hash (Q.stands_for key.now) removed self.old.base.caller self.new.base.caller) }
+        ensures removed { IfOk result (λ taken. MapGaveUpIf K.eq S.hash (Q.stands_for key.now) (option_map (λ found. found.word) taken) self.old.base.caller self.new.base.caller) }
+        ensures shown { IfOk result (λ taken. IfSome taken (λ found. Shows self.new.base.caller found.word)) }
         ensures asked { HasAsked K.eq S.hash (TestSays (MayTest F.Fn test)) (RemoveIf (Q.stands_for key.now)) self.old.base.caller.seat.view self.new.base.caller.seat.view }
-        ensures refused { IfErr result (λ fault. HasBeenRefused K.eq S.hash (RemoveIf (Q.stands_for key.now)) fault self.old.base.caller self.new.base.caller) }
+        ensures refused { IfErr result (λ fault. WasRefused K.eq S.hash (RemoveIf (Q.stands_for key.now)) fault self.old.base.caller self.new.base.caller) }
     {
         self.base.remove_if(rt, key, test)
     }

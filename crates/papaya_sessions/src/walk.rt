@@ -1,8 +1,8 @@
-//! Walks by steps: a session lists clones of the keys that a walk tells, and lends the pairs of listed keys, one after another.
+//! Walks by steps: a session lists clones of the keys or of the values that a walk tells, and lends the pairs of listed keys, one after another.
 ghost use Rattle.std.specs.Prelude.{◌≡◌, ◌<◌, ◌∷◌, ◌++◌, [], false, IfErr, IfOk, IfSome, OnOk, option_map};
 ghost use Rattle.std.specs.Vec.Iter.{into_iter_items, into_iter_len};
 ghost use Rattle.papaya_sessions.specs.Kept.{KeepsMap};
-ghost use Rattle.papaya_sessions.specs.Walked.{GoesOn, HasListed, PutsClone, WasNotListed};
+ghost use Rattle.papaya_sessions.specs.Walked.{GoesOn, HasListed, HasListedValues, PutsClone, WasNotListed};
 ghost use Rattle.seize_words.specs.declared.fault.Fault.TheVariants.{Memory};
 
 use crate::pass::HashMapRef;
@@ -16,48 +16,73 @@ use std::vec::IntoIter;
 use threads_sweeps::Onlooker;
 use threads_updates::Form;
 
-/// Clones of the keys of which a walk has told so far, and whether memory was refused to one.
+/// Clones of those of which a walk has told so far, and whether memory was refused to one: of keys, where it looks on itself.
 #[derive(Drop)]
-struct Listing<K> {
-    keys: Vec<K>,
+struct Listing<T> {
+    items: Vec<T>,
     refused: bool,
 }
 
-/// Puts a clone of a key after these.
-fn put_clone<K: Clone + Drop>(keys: &mut Vec<K>, key: &K) -> Result<(), AllocError>
-    ensures put { OnOk result ((own : K) × K.is_clone key.now own × (keys.new.items ≡ keys.old.items ++ (own ∷ []))) }
+/// Puts a clone of this one after these.
+fn put_clone<T: Clone + Drop>(items: &mut Vec<T>, one: &T) -> Result<(), AllocError>
+    ensures put { OnOk result ((own : T) × T.is_clone one.now own × (items.new.items ≡ items.old.items ++ (own ∷ []))) }
 {
-    let own = key.clone()?;
-    keys.push(own)?;
+    let own = one.clone()?;
+    items.push(own)?;
     Ok(())
 }
 
-impl<K: Clone + Drop, V> Onlooker<K, V> for Listing<K> {
-    ghost may_see = { λ listed. Unit {0} };
-
-    ghost has_seen = { λ listed key value n. PutsClone K.is_clone key listed.refused listed.keys.items n.refused n.keys.items };
-
-    fn sees(&mut self, key: &K, _: &V) {
+impl<T: Clone + Drop> Listing<T> {
+    /// Lists one more, as long as memory was refused to none.
+    fn lists(&mut self, one: &T)
+        ensures { PutsClone T.is_clone one.now self.old.refused self.old.items.items self.new.refused self.new.items.items }
+    {
         if self.refused {
             return;
         }
-        match put_clone(&mut self.keys, key) {
+        match put_clone(&mut self.items, one) {
             Ok(()) => {}
             Err(_) => self.refused = true,
         }
     }
 }
 
-/// The keys that are listed, or `Fault::Memory`, where that was refused to one.
-fn listed<K: Drop>(told: Listing<K>) -> Result<Vec<K>, Fault>
-    ensures all { IfOk result (λ keys. (told.refused ≡ false) × (keys.items ≡ told.keys.items)) }
+/// Returns those that are listed, or `Fault::Memory`, where that was refused to one.
+fn listed<T: Drop>(told: Listing<T>) -> Result<Vec<T>, Fault>
+    ensures all { IfOk result (λ items. (told.refused ≡ false) × (items.items ≡ told.items.items)) }
     ensures fault { IfErr result (λ fault. fault ≡ Memory) }
 {
-    let Listing { keys, refused } = told;
+    let Listing { items, refused } = told;
     if refused {
         Err(Fault::Memory)
     } else {
-        Ok(keys)
+        Ok(items)
+    }
+}
+
+impl<K: Clone + Drop, V> Onlooker<K, V> for Listing<K> {
+    ghost may_see = { λ listed. Unit {0} };
+
+    ghost has_seen = { λ listed key value n. PutsClone K.is_clone key listed.refused listed.items.items n.refused n.items.items };
+
+    fn sees(&mut self, key: &K, _: &V) {
+        self.lists(key);
+    }
+}
+
+/// Looks on for values.
+#[derive(Drop)]
+struct ListingValues<V> {
+    values: Listing<V>,
+}
+
+impl<K, V: Clone + Drop> Onlooker<K, V> for ListingValues<V> {
+    ghost may_see = { λ listed. Unit {0} };
+
+    ghost has_seen = { λ listed key value n. PutsClone V.is_clone value listed.values.refused listed.values.items.items n.values.refused n.values.items.items };
+
+    fn sees(&mut self, _: &K, value: &V) {
+        self.values.lists(value);
     }
 }
 
@@ -70,12 +95,33 @@ impl<'m, K: Eq + Hash + Clone + Drop, V: Drop, S: Hashes<K>> Session<'m, K, V, S
         ensures refused { IfErr result (λ fault. WasNotListed K.eq S.hash fault self.old.base.caller self.new.base.caller) }
     {
         let none = Listing {
-            keys: Vec::new(alloc),
+            items: Vec::new(alloc),
             refused: false,
         };
         let (end, told) = self.shows_to(rt, none);
         match end {
             Ok(()) => listed(told),
+            Err(fault) => Err(fault),
+        }
+    }
+}
+
+impl<'m, K: Eq + Hash + Drop, V: Clone + Drop, S: Hashes<K>> Session<'m, K, V, S> {
+    /// Lists the values of the map, as clones of those of the pairs of which `keys` lists the keys, with the same faults.
+    pub fn values<R: Wait>(&mut self, rt: &R, alloc: Global) -> Result<Vec<V>, Fault>
+        ensures keeps { KeepsMap self.old self.new }
+        ensures listed { IfOk result (λ values. HasListedValues K.eq S.hash V.is_clone values.items self.old.base.caller self.new.base.caller) }
+        ensures refused { IfErr result (λ fault. WasNotListed K.eq S.hash fault self.old.base.caller self.new.base.caller) }
+    {
+        let none = ListingValues {
+            values: Listing {
+                items: Vec::new(alloc),
+                refused: false,
+            },
+        };
+        let (end, told) = self.shows_to(rt, none);
+        match end {
+            Ok(()) => listed(told.values),
             Err(fault) => Err(fault),
         }
     }

@@ -11,4 +11,5 @@ mod Acts
 mod Along
 pub mod Answered
 pub mod Calls
+pub mod Named
 pub mod Whole

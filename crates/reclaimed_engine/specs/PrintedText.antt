@@ -1,4 +1,3 @@
--- What is printed for a run of a script, and how it is written.
+-- What is printed for a run of a script.
 pub mod Ascending
-pub mod Output
 pub mod Text

@@ -1,27 +1,18 @@
 //! The lines of the events.
 ghost use Rattle.std.specs.Prelude.{◌≡◌, ◌++◌, codes, OnOk};
-ghost use Rattle.std.specs.Fmt.{decimal};
 ghost use Rattle.std.specs.List.{flat_map, zip};
-ghost use Rattle.reclaimed_engine.specs.PrintedText.Text.{answer_line, asks_line, back_line, back_lines, event_lines, line, numbered, outcome_line, refused_line, shape_line, table_shape};
+ghost use Rattle.reclaimed_engine.specs.PrintedText.Text.{answer_line, asks_line, back_line, back_lines, event_lines, numbered, outcome_line, shape_line, table_shape};
+ghost use Rattle.reclaimed_script.specs.Outputs.{line};
 
 use crate::pieces::append_numbered;
+use reclaimed_script::{append_number_line, append_refused_line};
 use run_schedules::call::Response;
 use run_schedules::effect::{Effect, Thing};
 use run_schedules::outcome::Outcome;
 use run_schedules::record::Run;
 use run_schedules::shapes::TableShape;
 use run_schedules::token::Token;
-use seize_words::Fault;
 use std::alloc::{AllocError, Global};
-
-/// Appends the line of an event that was refused.
-#[tactic(auto, using(crate::proofs::PrintedText::Spelling::refused_line_parts))]
-fn append_refused_line(alloc: Global, out: &mut Vec<u8>, fault: Fault) -> Result<(), AllocError>
-    ensures { OnOk result (out.new.items ≡ out.old.items ++ refused_line fault) }
-{
-    let line = format!(in alloc; "refused {} {}\n", fault.number(), fault.name())?;
-    out.extend_from_slice(line.as_bytes())
-}
 
 /// Appends a line of a word and a pair.
 fn append_pair_line(
@@ -77,20 +68,6 @@ fn append_aborted_line(out: &mut Vec<u8>, value: &Token) -> Result<(), AllocErro
     out.extend_from_slice(b"aborted ")?;
     out.extend_from_slice(value.as_bytes())?;
     out.extend_from_slice(b"\n")
-}
-
-/// Appends a line of a word and a number.
-fn append_number_line(
-    alloc: Global,
-    out: &mut Vec<u8>,
-    word: &[u8],
-    number: u64,
-) -> Result<(), AllocError>
-    ensures { OnOk result (out.new.items ≡ out.old.items ++ line (word.now ++ decimal number)) }
-{
-    let text = format!(in alloc; "{number}\n")?;
-    out.extend_from_slice(word)?;
-    out.extend_from_slice(text.as_bytes())
 }
 
 /// Appends the line of a call that was answered.

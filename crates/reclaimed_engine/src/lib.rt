@@ -3,18 +3,17 @@
 
 mod events;
 mod finals;
-pub mod output;
 mod pieces;
 mod text;
 
-ghost use Rattle.reclaimed_engine.specs.Lines.Engine.{stop_line, EndsWith, IsTextFor, ReportsFailure};
-ghost use Rattle.reclaimed_engine.specs.PrintedText.Output.{has_failed, writer_of, Writes};
+ghost use Rattle.reclaimed_engine.specs.Lines.Engine.{stop_line, EndsWith, IsTextFor};
+ghost use Rattle.reclaimed_script.specs.Outputs.{has_failed, writer_of};
 ghost use Rattle.std.specs.Io.KnownBytes.{Keeps, Appends};
 ghost use Rattle.std.specs.Prelude.{◌≡◌, false, IfOk, IfErr, OnErr, IfSome};
 
-pub use output::{Output, write};
 use papaya_steps::running::run;
-use reclaimed_script::{Script, ScriptStop, hasher_of, read, setup_of};
+pub use reclaimed_script::Output;
+use reclaimed_script::{Script, ScriptStop, hasher_of, print, read, setup_of};
 use std::alloc::{AllocError, Global};
 use std::io::{Read, Write};
 pub use text::{fault_line, text_of};
@@ -57,18 +56,6 @@ fn say<E: Write>(alloc: Global, errors: &mut Output<E>, stop: ScriptStop) -> Res
     let line = stop_line(alloc, stop)?;
     errors.put(&line);
     Ok(1)
-}
-
-/// Writes what is printed, and answers the status: 0 where all was written. A write that failed is told on the errors.
-fn print<W: Write, E: Write>(output: &mut Output<W>, errors: &mut Output<E>, text: &[u8]) -> u8
-    ensures writes { Writes result text.now (has_failed output.new) (W.contents (writer_of output.old)) (W.contents (writer_of output.new)) }
-    ensures says { ReportsFailure (has_failed output.new) (has_failed errors.new) (E.contents (writer_of errors.old)) (E.contents (writer_of errors.new)) }
-{
-    let status = write(output, text);
-    if output.has_failed() {
-        errors.put(b"write failed\n");
-    }
-    status
 }
 
 /// Reads a whole script, runs it, and writes what is printed for it, or the one line that says why it gives no run. Where what is printed can't be

@@ -1,3 +1,4 @@
+pub mod OutputLemmas
 pub mod ParserLemmas
 pub mod ReadingLemmas
 mod Samples

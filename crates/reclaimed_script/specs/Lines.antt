@@ -9,7 +9,7 @@ use Rattle.reclaimed_script.specs.declared.fault.LineFault.{LineFault}
 use Rattle.reclaimed_script.specs.declared.fault.LineFault.TheVariants.{UnknownEvent, BadWord}
 use Rattle.reclaimed_script.specs.declared.fault.LineStop.{LineStop}
 use Rattle.reclaimed_script.specs.declared.fault.LineStop.TheVariants as stops
-use Rattle.reclaimed_script.specs.Words.{words_of, name_of, caller_of, number_of, number_between, next_of, none_of, one_of, two_of, three_of}
+use Rattle.reclaimed_script.specs.Words.{words_of, name_of, caller_of, number_of, number_between, next_of, none_of, one_of, two_of, three_of, ◌>>=◌}
 use Rattle.reclaimed_script.specs.Calls.{call_said, reply_said, nomem_of}
 
 -- an event of a script: keys are numbers, names and values are words

@@ -3,14 +3,18 @@ use crate::given::GivenBytes;
 use crate::narrow::Narrow;
 use crate::text::{append_text, byte_of, malformed};
 use reclaimed_engine::{Output, engine};
+use reclaimed_load::load;
 use std::alloc::{AllocError, Global};
 use std::io;
+use std::sync::Wait;
+use std::thread::Threads;
 
 /// A script, how its input and outputs behave, and what is wanted of it.
 #[derive(Drop)]
 pub struct Case {
     /// The number of its last line in its file, counted from 1, and 0 where it has none yet.
     line: usize,
+    words: Vec<String>,
     script: Vec<u8>,
     printed: Vec<u8>,
     told: Vec<u8>,
@@ -40,6 +44,7 @@ impl Case {
     pub fn new(alloc: Global) -> Self {
         Case {
             line: 0,
+            words: Vec::new(alloc),
             script: Vec::new(alloc),
             printed: Vec::new(alloc),
             told: Vec::new(alloc),
@@ -94,13 +99,14 @@ impl Case {
         }
     }
 
-    /// How it differs from a plain case: a line stands once for each of these numbers, which `*` stands for (`for 1 9 > call g m insert * x | none`); the
-    /// script goes on with so many times a byte (`repeat 300 61`); one read gives so many bytes at most (`pieces 3`); so many reads are interrupted
+    /// How it differs from a plain case: there is no script, but these are the program's arguments (`words load 4 1000`); a line stands once for each of
+    /// these numbers, which `*` stands for (`for 1 9 > call g m insert * x | none`); the script goes on with so many times a byte (`repeat 300 61`); one read gives so many bytes at most (`pieces 3`); so many reads are interrupted
     /// first (`interrupted 3`); the input fails behind the script (`breaks`); a write fails once so many bytes were written (`room 3`,
     /// `errors_room 3`); it has to end in another way than what stands there (`differs`).
     fn behave(&mut self, how: &str) -> io::Result<()> {
         let (word, rest) = how.split_once(' ').unwrap_or((how, ""));
         match word {
+            "words" => self.take_words(rest)?,
             "for" => self.take_each(rest)?,
             "repeat" => self.repeat(rest)?,
             "pieces" => self.piece = number_of(rest)?,
@@ -110,6 +116,14 @@ impl Case {
             "errors_room" => self.errors_room = number_of(rest)?,
             "differs" => self.differs = true,
             _ => return Err(malformed()),
+        }
+        Ok(())
+    }
+
+    fn take_words(&mut self, rest: &str) -> io::Result<()> {
+        let alloc = *self.script.allocator();
+        for word in rest.split(' ') {
+            self.words.push(word.to_string(alloc)?)?;
         }
         Ok(())
     }
@@ -137,8 +151,12 @@ impl Case {
         Ok(())
     }
 
-    /// Runs the script.
-    pub fn run(&self, alloc: Global) -> Result<Ended, AllocError> {
+    /// Runs the script, or does what the arguments say.
+    pub fn run<R: Threads + Wait + Sync>(
+        &self,
+        rt: &R,
+        alloc: Global,
+    ) -> Result<Ended, AllocError> {
         let mut input = GivenBytes {
             left: &self.script,
             piece: self.piece,
@@ -147,7 +165,11 @@ impl Case {
         };
         let mut output = Output::new(Narrow::new(alloc, self.room));
         let mut errors = Output::new(Narrow::new(alloc, self.errors_room));
-        let status = engine(alloc, &mut input, &mut output, &mut errors)?;
+        let status = if self.words.is_empty() {
+            engine(alloc, &mut input, &mut output, &mut errors)?
+        } else {
+            load(rt, alloc, &self.words, &mut output, &mut errors)?
+        };
         Ok(Ended {
             status,
             printed: output.into_writer().into_bytes(),

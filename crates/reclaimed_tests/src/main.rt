@@ -16,21 +16,28 @@
 mod case;
 mod cases;
 mod given;
+mod meeting;
 mod narrow;
 mod text;
 
 use crate::cases::cases_of;
+use crate::meeting::two_meet;
 use std::process::ExitCode;
 use std::rt::{Env, Files};
+use std::sync::Wait;
+use std::thread::Threads;
 use std::{fs, io};
 
 /// Runs the cases of a file, and prints how many there are. Answers whether each came out as it stands there, and tells those that did not.
-fn run_file<R: Files + AllocGlobal + Print + Eprint>(rt: &R, name: &str) -> io::Result<bool> {
+fn run_file<R: Files + AllocGlobal + Print + Eprint + Threads + Wait + Sync>(
+    rt: &R,
+    name: &str,
+) -> io::Result<bool> {
     let text = fs::read_to_string(rt, name)?;
     let cases = cases_of(rt.alloc(), text.as_str())?;
     let mut all_right = true;
     for case in &cases {
-        let ended = case.run(rt.alloc())?;
+        let ended = case.run(rt, rt.alloc())?;
         if !case.is_right(&ended) {
             all_right = false;
             ended.tell(rt, name, case.line())?;
@@ -40,8 +47,10 @@ fn run_file<R: Files + AllocGlobal + Print + Eprint>(rt: &R, name: &str) -> io::
     Ok(all_right)
 }
 
-/// Runs the files that the arguments name. Answers whether there are any, and each case came out as it stands there.
-fn run_files<R: Env + Files + AllocGlobal + Print + Eprint>(rt: &R) -> io::Result<bool> {
+/// Runs the files that the arguments name, and two workers of a load. Answers whether there are files, each case came out as it stands there, and the workers have met.
+fn run_files<R: Env + Files + AllocGlobal + Print + Eprint + Threads + Wait + Sync>(
+    rt: &R,
+) -> io::Result<bool> {
     let mut all_right = true;
     let mut files = 0u64;
     for name in std::env::args(rt)?.skip(1) {
@@ -57,7 +66,9 @@ fn run_files<R: Env + Files + AllocGlobal + Print + Eprint>(rt: &R) -> io::Resul
     if files == 0 {
         eprintln!(rt; "usage: reclaimed_tests FILE..")?;
     }
-    Ok(all_right && files > 0)
+    let meet = two_meet(rt, rt.alloc())?;
+    println!(rt; "two workers of a load meet: {meet}")?;
+    Ok(all_right && meet && files > 0)
 }
 
 fn main(rt: HostRuntime) -> ExitCode {

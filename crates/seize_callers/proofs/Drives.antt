@@ -25,7 +25,7 @@ use Rattle.seize_views.specs.declared.view.Began.{Began}
 use Rattle.seize_views.specs.declared.view.Noted.{Noted}
 use Rattle.seize_views.specs.declared.view.Deed.{Deed}
 use Rattle.seize_views.specs.declared.view.SlotView.{SlotView}
-use Rattle.seize_views.specs.declared.view.SlotView.TheVariants.{Rests, Registers, Outside, Owes, Enters, Inside, Settles, Leaves, Left, Frees, Brings, Bears, Watches, Under, Joins, Busy}
+use Rattle.seize_views.specs.declared.view.SlotView.TheVariants.{Rests, Registers, Outside, Owes, Enters, Inside, Settles, Leaves, Left, Frees, Brings, Bears, Watches, Under, Joins, Defers, Busy}
 use Rattle.seize_views.specs.declared.view.Fixed.{Fixed}
 use Rattle.seize_views.proofs.Views.Looks.{once}
 use Rattle.seize_views.proofs.Views.Makes.{IsDo, IsNoRewrite, may_by, was_made}
@@ -90,8 +90,7 @@ module _ {T M X Y : Type 0} (defers : T → Option ℕ) (notes : M → Noted T) 
         → IsSettling task end.0 (notes n) × (end.0.slot ≡ c.slot) × (blocks n ≡ blocks m) × (left_in (notes n) < left_in (notes m)) × DropGoes end.1
         × (beside n ≡ beside m)
     has_stepped n end st =
-        let k = was_made Can Has shown m (settle_plan defers c) n end (is_do defers c c.stands ne) st in
-        let g = goes_on k.0 k.1 n k.2 in
+        let k = was_made Can Has shown m (settle_plan defers c) n end (is_do defers c c.stands ne) st in let g = goes_on k.0 k.1 n k.2 in
         let same : end ≡ g.end = k.3 g.end
         (subst (λ (f : ℕ → Option T). FollowsBy f (settle_plan defers c) k.1 g.end) (sym (shows n g.end.0 g.seen g.now g.view)) g.follows) in (
           (
@@ -118,8 +117,7 @@ module _ {T V W B : Type 0} (holds : Fixed → State T V W → Type 0) (keeps : 
 
   known_looked : (w : SlotView T) (b : ℕ) → (notes v).knows ≡ w → IsSome (shown_in w b) → IsShownIn w b
   known_looked (Settles c why (Some (a, x)) left) b at is =
-      let e : a ≡ b = sym (eqb-true b a (some_same (b == a) (Some x) is)) in
-      let k = law fixed id v c why a left x at in (
+      let e : a ≡ b = sym (eqb-true b a (some_same (b == a) (Some x) is)) in let k = law fixed id v c why a left x at in (
         subst (λ (n : ℕ). VisibleTo (holds fixed) id v n) e k.0,
         λ y of. ap (λ (z : Bool). if z then Some x else None) (some_same (b == a) (Some x) is)
             ∙ ap Some (sym (k.1 y (subst (λ (n : ℕ). IsValueOf (holds fixed) id v n y) (sym e) of))),
@@ -139,6 +137,7 @@ module _ {T V W B : Type 0} (holds : Fixed → State T V W → Type 0) (keeps : 
   known_looked (Watches t c) b at is = absurd (cc is)
   known_looked (Under n t c) b at is = absurd (cc is)
   known_looked (Joins block) b at is = absurd (cc is)
+  known_looked (Defers t c) b at is = absurd (cc is)
   known_looked (Busy t) b at is = absurd (cc is)
 
   pub is_looked : (b : ℕ) → IsSome (shown_in (notes v).knows b) → IsShownIn (notes v).knows b

@@ -106,8 +106,7 @@ module _ {T : Type 0} (defers : T → Option ℕ) (v w : SlotView T) where
 
   pub own_linked_told : (b r word old : ℕ) → brought_by v ≡ Some b → told defers v (Swap (Root r) word) (Found old) w → w ≡ alone_with (cut_in old)
   own_linked_told b r word old e so =
-      let k = brings b v e in
-      let t = subst (λ (x : SlotView T). told defers x (Swap (Root r) word) (Found old) w) k.1 so in t.2 ∙ ap alone_with t.1
+      let k = brings b v e in let t = subst (λ (x : SlotView T). told defers x (Swap (Root r) word) (Found old) w) k.1 so in t.2 ∙ ap alone_with t.1
 
 -- and nothing is done at a root
 pub own_did : {T : Type 0} (v : SlotView T) (b : ℕ) (did d : Deed T) (y value : T) → brought_by v ≡ Some b → d ≡ deed v did (Rewrite b y) (Taken value) → d ≡ did

@@ -19,6 +19,6 @@ pub use reclaim::{acts, reclaim_all};
 pub use rule::{OfOne, Passing};
 pub use seize::IdSource;
 pub use seize_shared::{
-    Content, Guard, LocalGuard, OfRows, Owned, OwnedGuard, Pass, Protected, Registration,
+    Before, Content, Guard, LocalGuard, OfRows, Owned, OwnedGuard, Pass, Protected, Registration,
     RootGuard, Shared, Tagged, Unlinked,
 };

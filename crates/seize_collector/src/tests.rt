@@ -158,8 +158,10 @@ fn hands_abroad(
     let mut near = 0;
     let second = one.make(&mut near, Counted::of(drops)?).ok()?;
     match second.publish(0) {
-        Ok(Some(old)) => Some(goes_home(foreign.retire(old), &mut own)),
-        Ok(None) => None,
+        Ok(before) => {
+            let old = before.block()?;
+            Some(goes_home(foreign.retire(old), &mut own))
+        }
         Err(owned) => {
             drop(owned.into_value());
             None

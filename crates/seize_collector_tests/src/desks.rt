@@ -4,11 +4,11 @@ ghost use Rattle.std.specs.Prelude.{◌≡◌, IfSome};
 use crate::ground::CHOSEN;
 use seize::Fault;
 use seize_blocks::{Blocks, Home};
-use seize_guards::{Desk, DeskGuard, MOST_GUARDS, Place};
+use seize_collector::Shared;
+use seize_guards::{Desk, DeskGuard, MOST_GUARDS};
 use seize_shared::{OfRows, Owned, Registration, RootGuard, Unlinked};
-use seize_shared_tests::{Counted, DropCounts, dropped, table};
+use seize_shared_tests::{Counted, DropCounts, dropped, opened, table};
 use std::alloc::{AllocError, Global};
-use std::marker::Brand;
 use std::mem;
 use std::test::Fail;
 
@@ -23,19 +23,14 @@ struct Drops {
 
 /// Two guards see a value, which is taken away and retired by another slot then; one of them ends, and then the other one: the inner one first, or the outer
 /// one.
-fn ends<B: Place>(
-    blocks: &Blocks<Counted, OfRows>,
-    drops: &DropCounts,
-    inner_first: bool,
-) -> Option<Drops>
+fn ends(blocks: &Blocks<Counted, OfRows>, drops: &DropCounts, inner_first: bool) -> Option<Drops>
     requires fixed { blocks.now.words.fixed ≡ record { batch_size = 5; roots = 1; chains = 0 } }
-    requires home { blocks.now.words.id.views_name ≡ B.base }
 {
     let mut writer = Registration::new(blocks, &CHOSEN).ok()?;
     let mut guard = writer.enter();
     guard.put(0, Counted::of(drops, 0)?).ok()?;
     drop(guard);
-    let desk = Desk::<Counted, B>::new(blocks, &CHOSEN).ok()?;
+    let desk = Desk::new(blocks, &CHOSEN).ok()?;
     let Ok(mut outer) = desk.enter() else {
         return None;
     };
@@ -72,18 +67,7 @@ fn both_end(
     inner_first: bool,
 ) -> Result<Option<Drops>, AllocError> {
     let home = Home::<Counted, OfRows>::open(alloc, 1, 64, &CHOSEN)?;
-    Ok(ends_here(&home.blocks, drops, inner_first))
-}
-
-/// In this memory.
-fn ends_here(
-    blocks: &Blocks<Counted, OfRows>,
-    drops: &DropCounts,
-    inner_first: bool,
-) -> Option<Drops>
-    requires { blocks.now.words.fixed ≡ record { batch_size = 5; roots = 1; chains = 0 } }
-{
-    ends::<Brand>(blocks, drops, inner_first)
+    Ok(ends(&home.blocks, drops, inner_first))
 }
 
 #[test]
@@ -100,9 +84,9 @@ fn what_a_guard_has_seen_is_there_until_the_last_one_ends(rt: HostRuntime) -> Re
 }
 
 /// Enters as many guards as a desk may have; tells whether they are there.
-fn enters_all<'d, 'a, B: Place>(
-    desk: &'d Desk<'a, Counted, B>,
-    guards: &mut Vec<DeskGuard<'d, 'a, Counted, B>>,
+fn enters_all<'d, 'a>(
+    desk: &'d Desk<'a, Counted>,
+    guards: &mut Vec<DeskGuard<'d, 'a, Counted>>,
 ) -> bool {
     for _ in 0..MOST_GUARDS {
         let Ok(guard) = desk.enter() else {
@@ -116,11 +100,10 @@ fn enters_all<'d, 'a, B: Place>(
 }
 
 /// As many guards as there may be, one of which ends; whether a further one is refused before, as one too many, and there is one then.
-fn fills<B: Place>(alloc: Global, blocks: &Blocks<Counted, OfRows>) -> Option<(bool, bool)>
+fn fills(alloc: Global, blocks: &Blocks<Counted, OfRows>) -> Option<(bool, bool)>
     requires fixed { blocks.now.words.fixed ≡ record { batch_size = 5; roots = 1; chains = 0 } }
-    requires home { blocks.now.words.id.views_name ≡ B.base }
 {
-    let desk = Desk::<Counted, B>::new(blocks, &CHOSEN).ok()?;
+    let desk = Desk::new(blocks, &CHOSEN).ok()?;
     let mut guards = Vec::new(alloc);
     let all = enters_all(&desk, &mut guards);
     let before = matches!(desk.enter(), Err(Fault::GuardsFull));
@@ -129,28 +112,20 @@ fn fills<B: Place>(alloc: Global, blocks: &Blocks<Counted, OfRows>) -> Option<(b
     if all { Some((before, then)) } else { None }
 }
 
-/// In this memory.
-fn fills_here(alloc: Global, blocks: &Blocks<Counted, OfRows>) -> Option<(bool, bool)>
-    requires { blocks.now.words.fixed ≡ record { batch_size = 5; roots = 1; chains = 0 } }
-{
-    fills::<Brand>(alloc, blocks)
-}
-
 #[test]
 fn a_desk_refuses_a_guard_where_it_has_the_most(rt: HostRuntime) -> Result<(), Fail> {
     let home = Home::<Counted, OfRows>::open(rt.alloc(), 1, 8, &CHOSEN)?;
-    assert_eq!(rt; fills_here(rt.alloc(), &home.blocks), Some((true, true)));
+    assert_eq!(rt; fills(rt.alloc(), &home.blocks), Some((true, true)));
     Ok(())
 }
 
 /// A guard that has seen a value is forgotten, and another slot takes the value away and retires it; answers how often it was dropped, once the desk has ended.
-fn forgets<B: Place>(blocks: &Blocks<Counted, OfRows>, drops: &DropCounts) -> Option<u64>
+fn forgets(blocks: &Blocks<Counted, OfRows>, drops: &DropCounts) -> Option<u64>
     requires fixed { blocks.now.words.fixed ≡ record { batch_size = 5; roots = 1; chains = 0 } }
-    requires home { blocks.now.words.id.views_name ≡ B.base }
 {
     let mut writer = Registration::new(blocks, &CHOSEN).ok()?;
     drop(writer.enter().put(0, Counted::of(drops, 0)?));
-    let desk = Desk::<Counted, B>::new(blocks, &CHOSEN).ok()?;
+    let desk = Desk::new(blocks, &CHOSEN).ok()?;
     let Ok(mut guard) = desk.enter() else {
         return None;
     };
@@ -169,14 +144,7 @@ fn forgets<B: Place>(blocks: &Blocks<Counted, OfRows>, drops: &DropCounts) -> Op
 /// The same over one memory, which ends then.
 fn forgets_one(alloc: Global, drops: &DropCounts) -> Result<Option<u64>, AllocError> {
     let home = Home::<Counted, OfRows>::open(alloc, 1, 8, &CHOSEN)?;
-    Ok(forgets_here(&home.blocks, drops))
-}
-
-/// In this memory.
-fn forgets_here(blocks: &Blocks<Counted, OfRows>, drops: &DropCounts) -> Option<u64>
-    requires { blocks.now.words.fixed ≡ record { batch_size = 5; roots = 1; chains = 0 } }
-{
-    forgets::<Brand>(blocks, drops)
+    Ok(forgets(&home.blocks, drops))
 }
 
 #[test]
@@ -189,18 +157,14 @@ fn what_a_forgotten_guard_of_a_desk_has_seen_is_there_until_the_memory_ends(
     Ok(())
 }
 
-/// What was there is retired under a guard that lends its value still, and another guard is there: how often it was dropped while it was lent, once the first
-/// guard had ended, and once both had.
-fn retires<B: Place>(
-    blocks: &Blocks<Counted, OfRows>,
-    drops: &DropCounts,
-) -> Option<(u64, u64, u64)>
-    requires fixed { blocks.now.words.fixed ≡ record { batch_size = 5; roots = 1; chains = 0 } }
-    requires home { blocks.now.words.id.views_name ≡ B.base }
-{
+/// What was there is retired under a guard of a collector's desk that lends its value still, and another guard is there: how often it was dropped while it was
+/// lent, once the first guard had ended, and once both had.
+fn retires(collector: &Shared<'_, Counted>, drops: &DropCounts) -> Option<(u64, u64, u64)> {
     let mut near = 0;
-    keeps(puts(Owned::new(blocks, &CHOSEN, &mut near, Counted::of(drops, 0)?).ok()?));
-    let desk = Desk::<Counted, B>::new(blocks, &CHOSEN).ok()?;
+    if let Some(old) = puts(collector.make(&mut near, Counted::of(drops, 0)?).ok()?) {
+        old.kept();
+    }
+    let desk = Desk::of(collector).ok()?;
     let Ok(mut outer) = desk.enter() else {
         return None;
     };
@@ -209,15 +173,26 @@ fn retires<B: Place>(
     };
     outer.see(0);
     let lent = outer.value()?;
-    if let Some(old) = puts(Owned::new(blocks, &CHOSEN, &mut near, Counted::of(drops, 1)?).ok()?) {
-        keeps(outer.retire(old).err());
+    let second = desk
+        .collector()
+        .make(&mut near, Counted::of(drops, 1)?)
+        .ok()?;
+    if let Some(old) = puts(second) {
+        if let Err((_, old)) = outer.retire(old) {
+            old.kept();
+        }
     }
     outer.flush();
     let before = dropped(&lent.drops, lent.place);
+    let same = desk.number() == collector.number() && outer.thread_id() == inner.thread_id();
     drop(outer);
     let one = dropped(drops, 0);
     drop(inner);
-    Some((before, one, dropped(drops, 0)))
+    if same {
+        Some((before, one, dropped(drops, 0)))
+    } else {
+        None
+    }
 }
 
 /// Puts a block at the root, and answers which one was there.
@@ -225,7 +200,7 @@ fn puts<'a>(owned: Owned<'a, Counted>) -> Option<Unlinked<'a, Counted>>
     ensures home { IfSome result (λ old. old.caller.blocks.now ≡ owned.entry.caller.blocks.now) }
 {
     match owned.publish(0) {
-        Ok(old) => old,
+        Ok(before) => before.block(),
         Err(owned) => {
             drop(owned.into_value());
             None
@@ -233,24 +208,10 @@ fn puts<'a>(owned: Owned<'a, Counted>) -> Option<Unlinked<'a, Counted>>
     }
 }
 
-/// Keeps what was not retired.
-fn keeps(old: Option<Unlinked<'_, Counted>>) {
-    if let Some(old) = old {
-        old.kept();
-    }
-}
-
-/// The same over one memory, which ends then.
-fn retires_alone(alloc: Global, drops: &DropCounts) -> Result<Option<(u64, u64, u64)>, AllocError> {
-    let home = Home::<Counted, OfRows>::open(alloc, 1, 8, &CHOSEN)?;
-    Ok(retires_here(&home.blocks, drops))
-}
-
-/// In this memory.
-fn retires_here(blocks: &Blocks<Counted, OfRows>, drops: &DropCounts) -> Option<(u64, u64, u64)>
-    requires { blocks.now.words.fixed ≡ record { batch_size = 5; roots = 1; chains = 0 } }
-{
-    retires::<Brand>(blocks, drops)
+/// The same over one collector, which ends then.
+fn retires_alone(alloc: Global, drops: &DropCounts) -> Result<Option<(u64, u64, u64)>, Fault> {
+    let collector = opened(alloc)?;
+    Ok(retires(&collector.shared(), drops))
 }
 
 #[test]

@@ -1,2 +1,3 @@
 pub mod Chains
+pub mod Drawers
 pub mod Samples

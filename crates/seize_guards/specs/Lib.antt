@@ -1,2 +1,4 @@
+pub mod Drawers
 pub mod Joining
 pub mod Taking
+pub mod Behind

@@ -2,6 +2,7 @@
 //! roots.
 #![tactic(auto)]
 
+mod before;
 mod guard;
 mod guarding;
 mod owned;
@@ -11,6 +12,7 @@ mod stay;
 mod tagged;
 mod unlinked;
 
+pub use before::Before;
 pub use guard::{LocalGuard, OwnedGuard, Registration};
 pub use guarding::{Guard, RootGuard};
 pub use owned::Owned;

@@ -1,15 +1,15 @@
 //! A block that was made, and has a seat of its own, and so needs no slot.
-ghost use Rattle.std.specs.Prelude.{◌≡◌, ◌≢◌, ◌<◌, ◌^◌, None, Some, IfOk, IfErr, IfSome, IfNone};
-ghost use Rattle.seize_words.specs.OneMemory.Word.{block_in, link_to};
+ghost use Rattle.std.specs.Prelude.{◌≡◌, ◌≢◌, ◌<◌, ◌^◌, None, Some, IfOk, IfErr};
+ghost use Rattle.seize_words.specs.OneMemory.Word.{link_to};
 ghost use Rattle.seize_words.specs.declared.fault.Fault.TheVariants.{ForeignGuard};
 ghost use Rattle.seize_callers.specs.Owning.{brought_by};
 ghost use Rattle.seize_shared.specs.Guards.Tags.{with_marks};
 ghost use Rattle.seize_views.specs.declared.view.Deed.TheVariants.{Looked, Wrote};
 ghost use Rattle.seize_views.specs.declared.view.SlotView.TheVariants.{Brings};
 
+use crate::before::Before;
 use crate::guarding::RootGuard;
 use crate::tagged::Tagged;
-use crate::unlinked::Unlinked;
 use seize::rows::Defers;
 use seize_blocks::Blocks;
 use seize_callers::Caller;
@@ -107,13 +107,13 @@ impl<'a, T: Defers> Owned<'a, T> {
         caller.takes_back(block)
     }
 
-    /// Puts the block at a root, and answers which one was there, and is to be retired. It comes back where there is no such root.
-    pub fn publish(self, root: u64) -> Result<Option<Unlinked<'a, T>>, Self>
-        ensures home { IfOk result (λ was. IfSome was (λ old. old.caller.blocks.now ≡ self.entry.caller.blocks.now)) }
-        ensures number { IfOk result (λ was. IfSome was (λ old. old.number ≡ self.entry.number)) }
+    /// Puts the block at a root, and answers what was there. It comes back where there is no such root.
+    pub fn publish(self, root: u64) -> Result<Before<'a, T>, Self>
+        ensures home { IfOk result (λ before. before.caller.blocks.now ≡ self.entry.caller.blocks.now) }
+        ensures number { IfOk result (λ before. before.number ≡ self.entry.number) }
         ensures back { IfErr result (λ back. back ≡ self.entry) }
-        ensures put { IfOk result (λ was. IfSome was (λ old. (value : T) → self.entry.caller.seat.view.knows ≡ Brings self.entry.block value
-            → old.caller.seat.view.did ≡ Wrote root (with_marks (link_to self.entry.block) 0) (Some value) old.word)) }
+        ensures put { IfOk result (λ before. (value : T) → self.entry.caller.seat.view.knows ≡ Brings self.entry.block value
+            → before.caller.seat.view.did ≡ Wrote root (with_marks (link_to self.entry.block) 0) (Some value) before.word) }
     {
         if root >= self.roots {
             return Err(self);
@@ -126,24 +126,24 @@ impl<'a, T: Defers> Owned<'a, T> {
         } = self;
         let mut caller = caller;
         let word = caller.links(root, block, 0);
-        Ok(Unlinked::of(caller, number, word))
+        Ok(Before::of(caller, number, word))
     }
 
-    /// Puts the block at a root, by a word with these marks, of which three bits count, while a guard of the same collector is there, and answers which one was
-    /// there, and is to be retired. With a guard of another collector it is `Fault::ForeignGuard`: nothing changes, and the block comes back.
+    /// Puts the block at a root, by a word with these marks, of which three bits count, while a guard of the same collector is there, and answers what was
+    /// there. With a guard of another collector it is `Fault::ForeignGuard`: nothing changes, and the block comes back.
     pub fn swap<G: RootGuard<T>>(
         self,
         guard: &G,
         root: u64,
         marks: u64,
-    ) -> Result<Option<Unlinked<'a, T>>, (Fault, Self)>
+    ) -> Result<Before<'a, T>, (Fault, Self)>
         requires root { root < self.caller.blocks.now.words.fixed.roots }
         ensures foreign { IfErr result (λ refused. (refused.0 ≡ ForeignGuard) × (self.entry.number ≢ (G.home guard.now).number) × (refused.1 ≡ self.entry)) }
         ensures own { IfOk result (λ _. self.entry.number ≡ (G.home guard.now).number) }
-        ensures home { IfOk result (λ was. IfSome was (λ old. old.caller.blocks.now ≡ self.entry.caller.blocks.now)) }
-        ensures number { IfOk result (λ was. IfSome was (λ old. old.number ≡ self.entry.number)) }
-        ensures put { IfOk result (λ was. IfSome was (λ old. (value : T) → self.entry.caller.seat.view.knows ≡ Brings self.entry.block value
-            → old.caller.seat.view.did ≡ Wrote root (with_marks (link_to self.entry.block) marks) (Some value) old.word)) }
+        ensures home { IfOk result (λ before. before.caller.blocks.now ≡ self.entry.caller.blocks.now) }
+        ensures number { IfOk result (λ before. before.number ≡ self.entry.number) }
+        ensures put { IfOk result (λ before. (value : T) → self.entry.caller.seat.view.knows ≡ Brings self.entry.block value
+            → before.caller.seat.view.did ≡ Wrote root (with_marks (link_to self.entry.block) marks) (Some value) before.word) }
     {
         if self.number != guard.number() {
             return Err((Fault::ForeignGuard, self));
@@ -156,28 +156,27 @@ impl<'a, T: Defers> Owned<'a, T> {
         } = self;
         let mut caller = caller;
         let word = caller.links(root, block, marks % 8);
-        Ok(Unlinked::of(caller, number, word))
+        Ok(Before::of(caller, number, word))
     }
 
     /// Puts the block at a root, by a word with these marks, of which three bits count, where the whole word is `old`, block and tag, while a guard of the same
-    /// collector is there; and answers which block was there, if one was, and is to be retired. Where another word is there it answers that, and the block
-    /// comes back. With a guard of another collector it is `Fault::ForeignGuard`: nothing changes, and the block comes back.
+    /// collector is there; and answers that it was there. Where another word is there it answers that one, and the block comes back. With a guard of another
+    /// collector it is `Fault::ForeignGuard`: nothing changes, and the block comes back.
     pub fn compare_exchange<G: RootGuard<T>>(
         self,
         guard: &G,
         root: u64,
         old: Tagged,
         marks: u64,
-    ) -> Result<Result<Option<Unlinked<'a, T>>, (Tagged, Self)>, (Fault, Self)>
+    ) -> Result<Result<Before<'a, T>, (Tagged, Self)>, (Fault, Self)>
         requires root { root < self.caller.blocks.now.words.fixed.roots }
         ensures foreign { IfErr result (λ refused. (refused.0 ≡ ForeignGuard) × (self.entry.number ≢ (G.home guard.now).number) × (refused.1 ≡ self.entry)) }
         ensures own { IfOk result (λ _. self.entry.number ≡ (G.home guard.now).number) }
-        ensures home { IfOk result (λ tried. IfOk tried (λ was. IfSome was (λ cut. cut.caller.blocks.now ≡ self.entry.caller.blocks.now))) }
-        ensures number { IfOk result (λ tried. IfOk tried (λ was. IfSome was (λ cut. cut.number ≡ self.entry.number))) }
-        ensures put { IfOk result (λ tried. IfOk tried (λ was. IfSome was (λ cut. (value : T) → self.entry.caller.seat.view.knows ≡ Brings self.entry.block value
-            → cut.caller.seat.view.did ≡ Wrote root (with_marks (link_to self.entry.block) marks) (Some value) old.word))) }
-        ensures cut { IfOk result (λ tried. IfOk tried (λ was. IfSome was (λ cut. cut.word ≡ old.word))) }
-        ensures none { IfOk result (λ tried. IfOk tried (λ was. IfNone was (block_in old.word ≡ 0))) }
+        ensures home { IfOk result (λ tried. IfOk tried (λ before. before.caller.blocks.now ≡ self.entry.caller.blocks.now)) }
+        ensures number { IfOk result (λ tried. IfOk tried (λ before. before.number ≡ self.entry.number)) }
+        ensures put { IfOk result (λ tried. IfOk tried (λ before. (value : T) → self.entry.caller.seat.view.knows ≡ Brings self.entry.block value
+            → before.caller.seat.view.did ≡ Wrote root (with_marks (link_to self.entry.block) marks) (Some value) old.word)) }
+        ensures word { IfOk result (λ tried. IfOk tried (λ before. before.word ≡ old.word)) }
         ensures other { IfOk result (λ tried. IfErr tried (λ found. (found.0.word ≢ old.word) × (found.1.caller.seat.view.did ≡ Looked root found.0.word))) }
         ensures same { IfOk result (λ tried. IfErr tried (λ found. (found.1.caller.blocks.now ≡ self.entry.caller.blocks.now) × (found.1.number ≡ self.entry.number)
             × (found.1.block ≡ self.entry.block))) }
@@ -195,7 +194,7 @@ impl<'a, T: Defers> Owned<'a, T> {
         } = self;
         let mut caller = caller;
         match caller.exchanges(root, old.word(), block, marks % 8) {
-            Ok(()) => Ok(Ok(Unlinked::of(caller, number, old.word()))),
+            Ok(()) => Ok(Ok(Before::of(caller, number, old.word()))),
             Err(now) => {
                 let owned = Owned {
                     caller,
@@ -215,16 +214,15 @@ impl<'a, T: Defers> Owned<'a, T> {
         root: u64,
         old: Tagged,
         marks: u64,
-    ) -> Result<Result<Option<Unlinked<'a, T>>, (Tagged, Self)>, (Fault, Self)>
+    ) -> Result<Result<Before<'a, T>, (Tagged, Self)>, (Fault, Self)>
         requires root { root < self.caller.blocks.now.words.fixed.roots }
         ensures foreign { IfErr result (λ refused. (refused.0 ≡ ForeignGuard) × (self.entry.number ≢ (G.home guard.now).number) × (refused.1 ≡ self.entry)) }
         ensures own { IfOk result (λ _. self.entry.number ≡ (G.home guard.now).number) }
-        ensures home { IfOk result (λ tried. IfOk tried (λ was. IfSome was (λ cut. cut.caller.blocks.now ≡ self.entry.caller.blocks.now))) }
-        ensures number { IfOk result (λ tried. IfOk tried (λ was. IfSome was (λ cut. cut.number ≡ self.entry.number))) }
-        ensures put { IfOk result (λ tried. IfOk tried (λ was. IfSome was (λ cut. (value : T) → self.entry.caller.seat.view.knows ≡ Brings self.entry.block value
-            → cut.caller.seat.view.did ≡ Wrote root (with_marks (link_to self.entry.block) marks) (Some value) old.word))) }
-        ensures cut { IfOk result (λ tried. IfOk tried (λ was. IfSome was (λ cut. cut.word ≡ old.word))) }
-        ensures none { IfOk result (λ tried. IfOk tried (λ was. IfNone was (block_in old.word ≡ 0))) }
+        ensures home { IfOk result (λ tried. IfOk tried (λ before. before.caller.blocks.now ≡ self.entry.caller.blocks.now)) }
+        ensures number { IfOk result (λ tried. IfOk tried (λ before. before.number ≡ self.entry.number)) }
+        ensures put { IfOk result (λ tried. IfOk tried (λ before. (value : T) → self.entry.caller.seat.view.knows ≡ Brings self.entry.block value
+            → before.caller.seat.view.did ≡ Wrote root (with_marks (link_to self.entry.block) marks) (Some value) old.word)) }
+        ensures word { IfOk result (λ tried. IfOk tried (λ before. before.word ≡ old.word)) }
         ensures other { IfOk result (λ tried. IfErr tried (λ found. (found.0.word ≢ old.word) × (found.1.caller.seat.view.did ≡ Looked root found.0.word))) }
         ensures same { IfOk result (λ tried. IfErr tried (λ found. (found.1.caller.blocks.now ≡ self.entry.caller.blocks.now) × (found.1.number ≡ self.entry.number)
             × (found.1.block ≡ self.entry.block))) }
@@ -234,11 +232,15 @@ impl<'a, T: Defers> Owned<'a, T> {
         self.compare_exchange(guard, root, old, marks)
     }
 
-    /// Puts the block at a root where none is there. Else, or where there is no such root, it comes back.
-    pub fn place(self, root: u64) -> Result<(), Self>
-        ensures home { IfErr result (λ back. back.caller.blocks.now ≡ self.entry.caller.blocks.now) }
-        ensures number { IfErr result (λ back. back.number ≡ self.entry.number) }
-        ensures block { IfErr result (λ back. back.block ≡ self.entry.block) }
+    /// Puts the block at a root where no word is. Else, or where there is no such root, it comes back.
+    pub fn place(self, root: u64) -> Result<Before<'a, T>, Self>
+        ensures home { IfOk result (λ before. before.caller.blocks.now ≡ self.entry.caller.blocks.now) }
+        ensures number { IfOk result (λ before. before.number ≡ self.entry.number) }
+        ensures put { IfOk result (λ before. (value : T) → self.entry.caller.seat.view.knows ≡ Brings self.entry.block value
+            → before.caller.seat.view.did ≡ Wrote root (with_marks (link_to self.entry.block) 0) (Some value) 0) }
+        ensures word { IfOk result (λ before. before.word ≡ 0) }
+        ensures same { IfErr result (λ back. (back.caller.blocks.now ≡ self.entry.caller.blocks.now) × (back.number ≡ self.entry.number)
+            × (back.block ≡ self.entry.block)) }
         ensures back { IfErr result (λ back. (value : T) → self.entry.caller.seat.view.knows ≡ Brings self.entry.block value
             → back.caller.seat.view.knows ≡ Brings back.block value) }
     {
@@ -252,14 +254,14 @@ impl<'a, T: Defers> Owned<'a, T> {
             block,
         } = self;
         let mut caller = caller;
-        if caller.exchanges(root, 0, block, 0).is_ok() {
-            return Ok(());
+        match caller.exchanges(root, 0, block, 0) {
+            Ok(()) => Ok(Before::of(caller, number, 0)),
+            Err(_) => Err(Owned {
+                caller,
+                number,
+                roots,
+                block,
+            }),
         }
-        Err(Owned {
-            caller,
-            number,
-            roots,
-            block,
-        })
     }
 }

@@ -36,7 +36,8 @@ pub struct Stay<'a, T: Defers + Drop, C: Content<T> = OfRows> {
     pub chains: u64,
     /// Whether its section is open.
     pub inside: bool,
-    seen: u64,
+    /// The block that was seen there, 0 for none.
+    pub seen: u64,
     /// How many seats watch that section.
     pub guards: u64,
     ghost counted: { (C.notes caller.seat.view).guards ≡ guards },

@@ -18,18 +18,20 @@ pub fn publishes(registration: &mut Registration<'_, Counted>, owned: Owned<'_, 
     ensures { registration.new.stay.caller.blocks ≡ registration.old.stay.caller.blocks }
 {
     match owned.publish(0) {
-        Ok(Some(old)) => {
-            let was = old.value();
-            let fresh = dropped(&was.drops, was.place) == 0;
-            match registration.retire(old) {
-                Ok(()) => fresh,
-                Err((_, old)) => {
-                    old.kept();
-                    false
+        Ok(before) => match before.block() {
+            Some(old) => {
+                let was = old.value();
+                let fresh = dropped(&was.drops, was.place) == 0;
+                match registration.retire(old) {
+                    Ok(()) => fresh,
+                    Err((_, old)) => {
+                        old.kept();
+                        false
+                    }
                 }
             }
-        }
-        Ok(None) => true,
+            None => true,
+        },
         Err(owned) => {
             drop(owned.into_value());
             false
@@ -136,7 +138,10 @@ fn places(collector: &Shared<'_, Counted>, drops: &DropCounts, place: usize) -> 
         return None;
     };
     match owned.place(0) {
-        Ok(()) => Some(true),
+        Ok(before) => {
+            before.none();
+            Some(true)
+        }
         Err(owned) => {
             if owned.into_value().place == place {
                 Some(false)

@@ -69,11 +69,13 @@ fn retires(
     let mut near = 0;
     let owned = collector.make(&mut near, second).ok()?;
     match owned.publish(0) {
-        Ok(Some(old)) => match old.retire(&mut guard) {
-            Ok(()) => (),
-            Err((_, old)) => old.kept(),
-        },
-        Ok(None) => (),
+        Ok(before) => {
+            if let Some(old) = before.block() {
+                if let Err((_, old)) = old.retire(&mut guard) {
+                    old.kept();
+                }
+            }
+        }
         Err(owned) => drop(owned.into_value()),
     }
     guard.flush();

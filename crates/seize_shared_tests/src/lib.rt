@@ -23,8 +23,6 @@ mod order;
 #[cfg(test)]
 mod passing;
 #[cfg(test)]
-mod retiring;
-#[cfg(test)]
 mod rewriting;
 #[cfg(test)]
 mod tagging;

@@ -31,14 +31,16 @@ fn replaces(
         return false;
     };
     match owned.compare_exchange(guard, 0, known, 0) {
-        Ok(Ok(Some(old))) => match registration.retire(old) {
-            Ok(()) => true,
-            Err((_, old)) => {
-                old.kept();
-                false
-            }
+        Ok(Ok(before)) => match before.block() {
+            Some(old) => match registration.retire(old) {
+                Ok(()) => true,
+                Err((_, old)) => {
+                    old.kept();
+                    false
+                }
+            },
+            None => true,
         },
-        Ok(Ok(None)) => true,
         Ok(Err((_, owned))) => {
             drop(owned.into_value());
             false

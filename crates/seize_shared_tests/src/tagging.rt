@@ -22,11 +22,12 @@ fn is_refused(guard: &OwnedGuard<'_, Counted>, known: Tagged, value: Counted) ->
         return false;
     };
     match owned.compare_exchange(guard, 0, known, 0) {
-        Ok(Ok(Some(old))) => {
-            old.kept();
+        Ok(Ok(before)) => {
+            if let Some(old) = before.block() {
+                old.kept();
+            }
             false
         }
-        Ok(Ok(None)) => false,
         Ok(Err((_, owned))) => {
             drop(owned.into_value());
             true
@@ -47,17 +48,19 @@ fn replaces(guard: OwnedGuard<'_, Counted>, was: Tagged, value: Counted) -> Opti
     let mut near = 0;
     let owned = guard.make(&mut near, value).ok()?;
     match owned.compare_exchange(&guard, 0, was, 0) {
-        Ok(Ok(Some(old))) => {
-            let tag = old.tagged().tag();
-            match old.retire(&mut guard) {
-                Ok(()) => Some(tag),
-                Err((_, old)) => {
-                    old.kept();
-                    None
-                }
+        Ok(Ok(before)) => {
+            let tag = before.tagged().tag();
+            match before.block() {
+                Some(old) => match old.retire(&mut guard) {
+                    Ok(()) => Some(tag),
+                    Err((_, old)) => {
+                        old.kept();
+                        None
+                    }
+                },
+                None => Some(tag),
             }
         }
-        Ok(Ok(None)) => Some(was.tag()),
         Ok(Err((_, owned))) => {
             drop(owned.into_value());
             None

@@ -24,6 +24,7 @@ pub mod GoesOn
 pub mod Users
 pub mod Blocks
 pub mod Written
+mod Linking
 pub mod Roots
 pub mod Handing
 pub mod Handed
@@ -34,5 +35,6 @@ pub mod Guarding
 pub mod Passing
 pub mod Stacking
 pub mod Walking
+pub mod Deferring
 pub mod Contents
 pub mod Values

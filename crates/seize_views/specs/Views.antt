@@ -8,6 +8,7 @@ pub mod Begun
 pub mod Watched
 pub mod Notes
 pub mod Stacking
+pub mod Deferring
 pub mod Content
 pub mod Resting
 pub mod Stays

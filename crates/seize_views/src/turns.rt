@@ -59,6 +59,18 @@ pub struct Going;
 /// It goes on no more, and knows of no block.
 pub struct Stopping;
 
+/// A seat that has seen a block is to take one out of a root.
+pub struct TakingBegins;
+
+/// What it has taken out is unlinked.
+pub struct Cutting;
+
+/// The row begins that puts it behind the block that the seat has seen.
+pub struct Deferring;
+
+/// That row ends.
+pub struct DeferringEnds;
+
 impl<T: Defers, C: Content<T>> Turn<Fixed, C::View> for RegisteringBegins<T, C> {
     ghost use Rattle.seize_views.specs.Views.Begun.{registering, Makes};
     ghost use Rattle.seize_views.specs.Views.Content.{Turned};
@@ -183,4 +195,30 @@ impl<T> Turn<Fixed, Noted<T>> for Stopping {
     ghost use Rattle.seize_views.specs.Views.Stacking.{stopping, GoesItsWay};
 
     ghost to = { λ _. GoesItsWay stopping };
+}
+
+impl<T> Turn<Fixed, Noted<T>> for TakingBegins {
+    ghost use Rattle.seize_views.specs.Views.Deferring.{NotedTaking};
+
+    ghost to = { λ _. NotedTaking };
+}
+
+impl<T> Turn<Fixed, Noted<T>> for Cutting {
+    ghost use Rattle.seize_views.specs.Views.Deferring.{cutting};
+    ghost use Rattle.seize_views.specs.Views.Stacking.{GoesItsWay};
+
+    ghost to = { λ _. GoesItsWay cutting };
+}
+
+impl<T: Defers> Turn<Fixed, Noted<T>> for Deferring {
+    ghost use Rattle.seize_views.specs.Views.Deferring.{NotedPutting};
+
+    ghost to = { λ _. NotedPutting T.defers };
+}
+
+impl<T> Turn<Fixed, Noted<T>> for DeferringEnds {
+    ghost use Rattle.seize_views.specs.Views.Deferring.{returning};
+    ghost use Rattle.seize_views.specs.Views.Stacking.{GoesItsWay};
+
+    ghost to = { λ _. GoesItsWay returning };
 }

@@ -1,5 +1,5 @@
 //! What those know that share the memory of a collector.
-use seize::rows::{Register, Settle};
+use seize::rows::{Defer, Register, Settle};
 
 /// What a seat knows, and what it has done last.
 pub struct Noted<T> {
@@ -33,6 +33,8 @@ pub enum Began {
     Section,
     /// The retirement of a block.
     Retirement,
+    /// The deferral of a block: it waits behind another one.
+    Deferral,
     /// The trying of its batch.
     Trial,
 }
@@ -71,6 +73,8 @@ pub enum SlotView<T> {
     /// It holds no slot, and is to make blocks for chains, or has made this one, of this value, which nobody else can reach, and whose link names this
     /// block, 0 for none.
     Joins(Option<(u64, T, u64)>),
+    /// Its section of this slot is open, and it is to put a block behind another one.
+    Defers(u64, Deferral<T>),
     /// It has something under way that is no row: within the open section of this slot, or without a slot.
     Busy(Option<u64>),
 }
@@ -90,6 +94,16 @@ pub enum Has<T> {
     /// It goes down a chain, and has come to this block, 0 for none, which its section holds with all that stands below it; and the link of that names this
     /// one, 0 for none, if it has looked.
     Walks(u64, Option<u64>),
+}
+
+/// How far a seat is that takes a block out of a root, and puts it behind another one.
+pub enum Deferral<T> {
+    /// It has seen the first block, of this value, and is to take out what a root names, where it puts the other one, of this value, which it has made, or none.
+    Takes(u64, T, Option<(u64, T)>),
+    /// It has taken the second block out, and nobody else may unlink that. These are the values of both.
+    Parts(u64, T, u64, T),
+    /// The row is under way that puts it behind the first one.
+    Puts(u64, Defer),
 }
 
 /// Why a seat settles.

@@ -39,6 +39,15 @@ fn begun<'m>(map: &'m Map) -> Result<Session<'m, u64, u64, Hashing>, Fault> {
     }
 }
 
+/// The first section of a registration.
+fn entered<'m>(map: &'m Map) -> Result<Session<'m, u64, u64, Hashing>, Fault> {
+    let registration = match map.register() {
+        Err(Fault::Memory) => map.register()?,
+        answer => answer?,
+    };
+    Ok(registration.enter())
+}
+
 /// One session more.
 fn another<'m>(
     session: &Session<'m, u64, u64, Hashing>,
@@ -149,10 +158,10 @@ fn makes<R: Wait>(
     value: u64,
 ) -> bool {
     let stored = match session.try_insert_with(rt, key, || value) {
-        Ok(stored) => stored,
+        Ok((_, stored)) => stored,
         Err(fault) => {
             let none = matches!(fault, Fault::Memory) && !session.contains_key(rt, &key);
-            none && matches!(session.try_insert_with(rt, key, || value), Ok(true))
+            none && matches!(session.try_insert_with(rt, key, || value), Ok((_, true)))
         }
     };
     stored && session.get(rt, &key).copied() == Some(value)
@@ -166,20 +175,20 @@ fn tests<R: Wait>(
     value: u64,
 ) -> bool {
     let removed = match session.remove_if(rt, &key, |_, there| *there == value) {
-        Ok(removed) => removed,
+        Ok(taken) => taken.is_some(),
         Err(fault) => {
             let still = matches!(fault, Fault::Memory) && session.contains_key(rt, &key);
             still
                 && matches!(
                     session.remove_if(rt, &key, |_, there| *there == value),
-                    Ok(true)
+                    Ok(Some(_))
                 )
         }
     };
     removed && !session.contains_key(rt, &key)
 }
 
-/// Lists the keys, and tells whether as many were listed as there are.
+/// Lists the keys and the values, and tells whether as many were listed as there are.
 fn lists<R: Wait>(
     rt: &R,
     alloc: Global,
@@ -189,7 +198,11 @@ fn lists<R: Wait>(
         Err(Fault::Memory) => session.keys(rt, alloc)?,
         answer => answer?,
     };
-    Ok(u64::try_from(keys.len()) == Ok(session.len()))
+    let values = match session.values(rt, alloc) {
+        Err(Fault::Memory) => session.values(rt, alloc)?,
+        answer => answer?,
+    };
+    Ok(u64::try_from(keys.len()) == Ok(session.len()) && values.len() == keys.len())
 }
 
 /// Makes the values of all keys in a map that was built, and removes each; tells whether each time all was as it should be.
@@ -257,7 +270,7 @@ fn many(done: [bool; 4]) -> u64 {
 fn counts<R: Wait>(rt: &R, session: &mut Session<'_, u64, u64, Hashing>, key: u64) -> bool {
     let put = session.update_or_insert(rt, &key, more, &1).is_ok();
     let with = session.update_or_insert_with(rt, &key, more, || 1).is_ok();
-    let updated = matches!(session.update(rt, &key, more), Ok(true));
+    let updated = matches!(session.update(rt, &key, more), Ok(Some(_)));
     let computed = session.compute(rt, &key, raises).is_ok();
     let done = many([put, with, updated, computed]);
     done >= 3 && session.get(rt, &key).copied() == Some(done)
@@ -335,6 +348,42 @@ fn fills<R: Wait>(rt: &R, set: &HashSet<u64, Hashing>) -> Result<bool, Fault> {
     Ok(are_there)
 }
 
+/// A clone of a map.
+fn cloned<R: Wait>(rt: &R, alloc: Global, map: &Map) -> Result<Map, Fault> {
+    let mut ids = IdSource::new();
+    match map.clone(rt, alloc, &mut ids) {
+        Err(Fault::Memory) => map.clone(rt, alloc, &mut ids),
+        answer => answer,
+    }
+}
+
+/// Tells whether two maps are the same.
+fn are_same<R: Wait>(
+    rt: &R,
+    one: &mut Session<'_, u64, u64, Hashing>,
+    other: &mut Session<'_, u64, u64, Hashing>,
+) -> Result<bool, Fault> {
+    match one.same(rt, other) {
+        Err(Fault::Memory) => one.same(rt, other),
+        answer => answer,
+    }
+}
+
+/// Clones a map of all keys, and tells whether the clone is the same until one more is stored there.
+fn copies<R: Wait>(rt: &R, alloc: Global) -> Result<bool, Fault> {
+    let map = made(alloc)?;
+    let mut session = entered(&map)?;
+    let mut are_there = true;
+    for key in 0..KEYS {
+        are_there = stores(rt, &mut session, key, None, key) && are_there;
+    }
+    let copy = cloned(rt, alloc, &map)?;
+    let mut other = begun(&copy)?;
+    let same = are_same(rt, &mut session, &mut other)?;
+    are_there = stores(rt, &mut other, KEYS, None, 0) && are_there;
+    Ok(same && !are_same(rt, &mut session, &mut other)? && are_there)
+}
+
 /// A map, as JSON.
 fn written<R: Wait>(
     rt: &R,
@@ -391,6 +440,7 @@ fn main(rt: HostRuntime) -> io::Result<()> {
         "all that is made of what is there: {}",
         changes(&rt, rt.alloc())?
     )?;
+    println!(rt; "all copies: {}", copies(&rt, rt.alloc())?)?;
     println!(rt; "all elements: {}", elements(&rt, rt.alloc())?)?;
     let read = reads(&rt, rt.alloc()).map_err(|_| io::Error::other("no map was read"))?;
     println!(rt; "all JSON: {read}")

@@ -2,4 +2,6 @@ pub mod Rows
 mod Newcomers
 mod Passing
 pub mod Known
+pub mod Named
+pub mod Answered
 pub mod Given

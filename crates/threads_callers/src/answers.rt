@@ -1,6 +1,6 @@
 //! What the answers of calls on one key say: which pairs they name, and what has come back.
 ghost use Rattle.std.specs.Prelude.{◌≡◌, Some, Ok, IsSome, option_map};
-ghost use Rattle.threads_callers.specs.Answers.{IsOutOf, has_stored, is_removed as removes, removed_by, replaced_by};
+ghost use Rattle.threads_callers.specs.Answers.{IsOutOf, has_stored, removed_by, replaced_by};
 ghost use Rattle.threads_errands.specs.Given.ErrandsCalling.{IsBack, is_put as puts, pair_there};
 ghost use Rattle.map_tables.specs.declared.node.Node.TheVariants.{Pair};
 
@@ -46,13 +46,6 @@ pub fn is_put(answer: &Answer) -> bool
         answer,
         Answer::Key(KeyAnswer::Stored(_) | KeyAnswer::Replaced { .. })
     )
-}
-
-/// Tells whether a pair was removed.
-pub fn is_removed(answer: &Answer) -> bool
-    ensures { result ≡ removes answer.now }
-{
-    matches!(answer, Answer::Key(KeyAnswer::Removed(_)))
 }
 
 /// Returns the pair that was removed, if one was.

@@ -6,9 +6,7 @@ mod caller;
 mod form;
 mod showing;
 
-pub use answers::{
-    Attempt, Found, came_of, is_put, is_removed, refused, removed, replaced, there, told_of,
-};
+pub use answers::{Attempt, Found, came_of, is_put, refused, removed, replaced, there, told_of};
 pub use caller::{MapCaller, MapPassSeat};
 pub use form::Form;
 pub use showing::newcomer;

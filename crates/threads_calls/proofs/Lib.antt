@@ -1,6 +1,5 @@
 pub mod Sessions
 mod Keys
-mod Named
 mod Whole
 mod Asks
 pub mod Given

@@ -3,6 +3,7 @@ pub use Rattle.seize_callers.specs.Kept as SeizeCallersKept
 pub use Rattle.seize_views.specs.declared as SeizeViewsDeclared
 pub use Rattle.threads_callers.specs.Given.ActsActs
 pub use Rattle.threads_callers.specs.Given.CallKindsKinds
+pub use Rattle.threads_callers.specs.Given.CallKindsShows
 pub use Rattle.threads_callers.specs.Given.ErrandsCalling
 pub use Rattle.threads_callers.specs.Given.ErrandsLooking
 pub use Rattle.threads_callers.specs.Given.ErrandsSweeping

@@ -3,14 +3,11 @@ ghost use Rattle.std.specs.Prelude.{◌≡◌};
 ghost use Rattle.threads_calls.specs.Given.SeizeViewsDeclared.view.Has.TheVariants.{Nothing};
 ghost use Rattle.threads_calls.specs.Given.SeizeViewsDeclared.view.SlotView.TheVariants.{Inside};
 
-use crate::resting::{CHOSEN, Hashing, MODE, Resting};
+use crate::resting::{CHOSEN, Hashing, KEYS, MODE, Resting};
 use std::sync::Wait;
 use std::test::Fail;
 use std::thread;
 use threads_calls::{SessionBase, Sleepers, memory_for};
-
-/// How many keys there are.
-const KEYS: u64 = 400;
 
 /// How many of the keys it has stored with this value because they were missing, if none was refused.
 fn stores<R: Wait>(
@@ -49,8 +46,8 @@ fn removes<R: Wait>(
     let mut refused = false;
     for key in 0..KEYS {
         match session.remove_if(rt, &key, |_, there| *there == value) {
-            Ok(true) => removed = u64::wrapping_add(removed, 1),
-            Ok(false) => {}
+            Ok(Some(_)) => removed = u64::wrapping_add(removed, 1),
+            Ok(None) => {}
             Err(_) => refused = true,
         }
     }
@@ -89,10 +86,7 @@ fn a_key_has_the_value_of_one_of_two_that_make_one(rt: HostRuntime) -> Result<()
     let hashing = Hashing::default();
     let home = memory_for::<u64, u64, Hashing>(rt.alloc(), 64, &CHOSEN)?;
     let sleepers = Sleepers::new();
-    let Ok(mut first) = SessionBase::open(&home.blocks, &sleepers, &hashing, &CHOSEN, MODE, 4)
-    else {
-        return Err(Fail::new("no map was made"));
-    };
+    let mut first = SessionBase::open(&home.blocks, &sleepers, &hashing, &CHOSEN, MODE, 4)?;
     let second = Resting::of(first.session());
     let third = Resting::of(first.session());
     let first = Resting::of(first);
@@ -110,10 +104,7 @@ fn a_pair_of_which_two_say_yes_is_removed_once(rt: HostRuntime) -> Result<(), Fa
     let hashing = Hashing::default();
     let home = memory_for::<u64, u64, Hashing>(rt.alloc(), 64, &CHOSEN)?;
     let sleepers = Sleepers::new();
-    let Ok(mut first) = SessionBase::open(&home.blocks, &sleepers, &hashing, &CHOSEN, MODE, 4)
-    else {
-        return Err(Fail::new("no map was made"));
-    };
+    let mut first = SessionBase::open(&home.blocks, &sleepers, &hashing, &CHOSEN, MODE, 4)?;
     let second = Resting::of(first.session());
     let third = Resting::of(first.session());
     let first = Resting::of(first);

@@ -25,10 +25,7 @@ fn two_threads_find_no_pair_in_a_map_that_has_none(rt: HostRuntime) -> Result<()
     let hashing = Hashing::default();
     let home = memory_for::<u64, u64, Hashing>(rt.alloc(), 64, &CHOSEN)?;
     let sleepers = Sleepers::new();
-    let Ok(mut first) = SessionBase::open(&home.blocks, &sleepers, &hashing, &CHOSEN, MODE, 4)
-    else {
-        return Err(Fail::new("no map was made"));
-    };
+    let mut first = SessionBase::open(&home.blocks, &sleepers, &hashing, &CHOSEN, MODE, 4)?;
     let second = Resting::of(first.session());
     let first = Resting::of(first);
     let (one, other) = thread::join(&rt, || finds(&rt, first, 1), || finds(&rt, second, 1));

@@ -108,14 +108,9 @@ fn two_threads_look_up_under_one_session(rt: HostRuntime) -> Result<(), Fail> {
     let hashing = Hashing::default();
     let home = memory_for::<u64, u64, Hashing>(rt.alloc(), 64, &CHOSEN)?;
     let sleepers = Sleepers::new();
-    let Ok(mut session) = SessionBase::open(&home.blocks, &sleepers, &hashing, &CHOSEN, MODE, 4)
-    else {
-        return Err(Fail::new("no map was made"));
-    };
+    let mut session = SessionBase::open(&home.blocks, &sleepers, &hashing, &CHOSEN, MODE, 4)?;
     let other = Resting::of(session.session());
-    if session.register().is_err() {
-        return Err(Fail::new("no slot was free"));
-    }
+    session.register()?;
     session.enter();
     let stored = stores(&rt, &mut session, 0);
     let (read, replaced) = thread::join(&rt, || both_read(&rt, &session), || replaces(&rt, other));

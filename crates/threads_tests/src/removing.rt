@@ -3,14 +3,11 @@ ghost use Rattle.std.specs.Prelude.{◌≡◌};
 ghost use Rattle.threads_calls.specs.Given.SeizeViewsDeclared.view.Has.TheVariants.{Nothing};
 ghost use Rattle.threads_calls.specs.Given.SeizeViewsDeclared.view.SlotView.TheVariants.{Inside};
 
-use crate::resting::{CHOSEN, Hashing, MODE, Resting};
+use crate::resting::{CHOSEN, Hashing, KEYS, MODE, Resting};
 use std::sync::Wait;
 use std::test::Fail;
 use std::thread;
 use threads_calls::{Attempt, Fixed, SessionBase, Sleepers, memory_for};
-
-/// How many keys there are.
-const KEYS: u64 = 400;
 
 /// How many of the keys it has stored with this value because they were missing, if none was refused, each pair that was not stored came back, and each key is lent with its own
 /// value or with another one.
@@ -107,6 +104,15 @@ fn works<R: Wait>(rt: &R, resting: Resting<'_>, value: u64, remove: bool) -> Opt
     })
 }
 
+/// Of a thread that has done nothing.
+fn nothing() -> Option<Done> {
+    Some(Done {
+        stored: Some(0),
+        there: 0,
+        removed: Some(0),
+    })
+}
+
 /// Both sums, if nothing was refused.
 fn sums(one: Option<Done>, other: Option<Done>) -> Option<(u64, u64)> {
     let one = one?;
@@ -123,10 +129,7 @@ fn of_two_that_try_to_store_a_key_one_does(rt: HostRuntime) -> Result<(), Fail> 
     let hashing = Hashing::default();
     let home = memory_for::<u64, u64, Hashing>(rt.alloc(), 64, &CHOSEN)?;
     let sleepers = Sleepers::new();
-    let Ok(mut first) = SessionBase::open(&home.blocks, &sleepers, &hashing, &CHOSEN, MODE, 4)
-    else {
-        return Err(Fail::new("no map was made"));
-    };
+    let mut first = SessionBase::open(&home.blocks, &sleepers, &hashing, &CHOSEN, MODE, 4)?;
     let second = Resting::of(first.session());
     let third = Resting::of(first.session());
     let first = Resting::of(first);
@@ -141,16 +144,8 @@ fn of_two_that_try_to_store_a_key_one_does(rt: HostRuntime) -> Result<(), Fail> 
     };
     assert!(rt; there);
     assert_eq!(rt; sums(one, other), Some((KEYS, 0)));
-    let last = works(&rt, third, 3, true);
     assert_eq!(rt;
-        sums(
-            last,
-            Some(Done {
-                stored: Some(0),
-                there: 0,
-                removed: Some(0)
-            })
-        ),
+        sums(works(&rt, third, 3, true), nothing()),
         Some((0, KEYS))
     );
     Ok(())
@@ -162,10 +157,7 @@ fn a_pair_that_two_threads_remove_is_removed_once(rt: HostRuntime) -> Result<(),
     let hashing = Hashing::default();
     let home = memory_for::<u64, u64, Hashing>(rt.alloc(), 64, &CHOSEN)?;
     let sleepers = Sleepers::new();
-    let Ok(mut first) = SessionBase::open(&home.blocks, &sleepers, &hashing, &CHOSEN, MODE, 4)
-    else {
-        return Err(Fail::new("no map was made"));
-    };
+    let mut first = SessionBase::open(&home.blocks, &sleepers, &hashing, &CHOSEN, MODE, 4)?;
     let second = Resting::of(first.session());
     let third = Resting::of(first.session());
     let first = Resting::of(first);
@@ -179,16 +171,8 @@ fn a_pair_that_two_threads_remove_is_removed_once(rt: HostRuntime) -> Result<(),
     };
     assert_eq!(rt; stored, removed);
     assert!(rt; KEYS <= stored);
-    let last = works(&rt, third, 3, true);
     assert_eq!(rt;
-        sums(
-            last,
-            Some(Done {
-                stored: Some(0),
-                there: 0,
-                removed: Some(0)
-            })
-        ),
+        sums(works(&rt, third, 3, true), nothing()),
         Some((KEYS, KEYS))
     );
     Ok(())

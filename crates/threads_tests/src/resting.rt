@@ -18,6 +18,9 @@ pub(crate) const CHOSEN: Fixed = Fixed {
 /// How the maps of most tests come to their next table.
 pub(crate) const MODE: ResizeMode = ResizeMode::Incremental(64);
 
+/// How many keys the maps of most tests have: so few are copied at once.
+pub(crate) const KEYS: u64 = 400;
+
 /// A session that holds no slot.
 pub(crate) struct Resting<'a, S: Hashes<u64> = Hashing> {
     pub(crate) session: SessionBase<'a, u64, u64, S>,

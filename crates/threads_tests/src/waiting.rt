@@ -1,5 +1,5 @@
 //! A call that waits for another one's copying sleeps, and is woken.
-use crate::resting::{CHOSEN, Resting};
+use crate::resting::{CHOSEN, KEYS, Resting};
 use seize_words::Fault;
 use std::hash::{BuildHasher, DefaultHasher};
 use std::sync::Wait;
@@ -8,9 +8,6 @@ use std::sync::atomic::Ordering::SeqCst;
 use std::test::Fail;
 use std::thread;
 use threads_calls::{ResizeMode, SessionBase, Sleepers, memory_for};
-
-/// How many pairs the map has: so few are copied at once.
-const KEYS: u64 = 400;
 
 /// For how many further pairs room is made: their table is too short for them.
 const MORE: u64 = 4_000;

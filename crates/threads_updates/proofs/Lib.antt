@@ -1,3 +1,4 @@
 mod Decided
 mod Asked
 mod Tried
+mod Named

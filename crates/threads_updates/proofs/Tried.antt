@@ -19,10 +19,8 @@ use Rattle.threads_updates.specs.declared.computing.ComputedOnce.{ComputedOnce}
 module _ {K V S T : Type 0} (same : K → K → Bool) (hash : S → K → ℕ) (Is : K → Type 0) (Gives : Option (K × V) → Operation V T → Type 0) (v : View K V S) where
   -- with what was said last that nothing is to change
   says_aborted : (end : Option T) → SaidLast Gives end → (done : ComputedPair T) → EndsSo end done → SaysAborted Gives done
-  says_aborted end said computed.Inserted is = tt
-  says_aborted end said computed.Updated is = tt
-  says_aborted end said computed.Removed is = tt
   says_aborted end said (computed.Aborted with_it) is = subst (λ (o : Option T). SaidLast Gives o) is said
+  says_aborted end said _ is = tt
 
   module _ (w : View K V S) (key : K) (is : Is key) (once : ComputedOnce T) (came : Once same hash Gives (Compute key) once v w) where
     has_told : (told : Result Answer Fault) → once.told ≡ told → HasTold same hash Is Gives told v w
@@ -78,11 +76,3 @@ not_aborted {K} {V} {S} {T} same hash Is Makes IsNew v w done end has e = none s
 pub stopped_so : {K V S : Type 0} (same : K → K → Bool) (hash : S → K → ℕ) (Is : K → Type 0) (Gives : Option (K × V) → Operation V Unit → Type 0) (v w : View K V S) (done : ComputedPair Unit)
     → done ≡ computed.Aborted tt → HasComputed same hash Is Gives done v w → HasStopped same hash Is Gives Memory v w
 stopped_so same hash Is Gives v w done e has = stopped_aborted same hash Is Gives v w tt (subst (λ (d : ComputedPair Unit). HasComputed same hash Is Gives d v w) e has)
-
--- what was tried with a key that is so was tried with one that is so for a reason
-pub tried_as : {K V S T : Type 0} (same : K → K → Bool) (hash : S → K → ℕ) (Is More : K → Type 0) (Gives : Option (K × V) → Operation V T → Type 0) → ((key : K) → Is key → More key) → (v w : View K V S)
-    → (came : Result (Option (ComputedPair T)) Fault) → HasTriedOnce same hash Is Gives came v w → HasTriedOnce same hash More Gives came v w
-tried_as same hash Is More Gives so v w (Ok (Some done)) (answer, told, is, said) = (answer, (told.0, so told.0 told.1, told.2), is, said)
-tried_as same hash Is More Gives so v w (Ok None) (answer, told, left) = (answer, (told.0, so told.0 told.1, told.2), left)
-tried_as same hash Is More Gives so v w (Err fault) (inl told) = inl (told.0, so told.0 told.1, told.2)
-tried_as same hash Is More Gives so v w (Err fault) (inr none) = inr none

@@ -1,5 +1,5 @@
 -- What has become of a key by what is said of its pair, or of none: calls that compute, one after another, of which the last one has changed the map, or was to stop.
-use Rattle.std.specs.Prelude.{◌≡◌, ◌⊎◌, ℕ, zero, suc, Bool, true, false, Option, Some, None, Result, Ok, Err}
+use Rattle.std.specs.Prelude.{◌≡◌, ◌⊎◌, ℕ, zero, suc, Bool, Option, Some, None, Result, Ok, Err}
 use Rattle.seize_words.specs.declared.fault.Fault.{Fault}
 use Rattle.seize_words.specs.declared.fault.Fault.TheVariants.{Memory}
 use Rattle.seize_words.specs.declared.operation.Operation.{Operation}
@@ -8,8 +8,10 @@ use Rattle.papaya_raw.specs.declared.machines.answer.KeyAnswer.TheVariants as an
 use Rattle.papaya_raw.specs.declared.machines.progress.Answer.{Answer}
 use Rattle.papaya_raw.specs.declared.machines.progress.Answer.TheVariants.{Key as OfKey}
 use Rattle.threads_calls.specs.Given.StepsAsking.{HasAnswered}
+use Rattle.threads_calls.specs.Given.CallersDeclared.caller.MapCaller.{MapCaller}
 use Rattle.threads_calls.specs.Given.ActsActs.{Compute}
 use Rattle.threads_calls.specs.Given.ViewsDeclared.view.View.{View}
+use Rattle.threads_calls.specs.Shown.{Shows}
 use Rattle.threads_updates.specs.Computing.{Told}
 use Rattle.threads_updates.specs.declared.changing.ComputedPair.{ComputedPair}
 use Rattle.threads_updates.specs.declared.changing.ComputedPair.TheVariants as computed
@@ -21,11 +23,11 @@ IsLeft (OfKey (answers.Replaced old new)) = ⊥
 IsLeft (OfKey (answers.Removed word)) = ⊥
 IsLeft answer = Unit {0}
 
--- it tells of this change, or of none
+-- it tells of this change, and of these pairs, or of none
 abbrev pub IsSo : {T : Type 0} → ComputedPair T → Answer → Type 0
-IsSo computed.Inserted (OfKey (answers.Stored word)) = Unit {0}
-IsSo computed.Updated (OfKey (answers.Replaced old new)) = Unit {0}
-IsSo computed.Removed (OfKey (answers.Removed word)) = Unit {0}
+IsSo (computed.Inserted new) (OfKey (answers.Stored word)) = word ≡ new.word
+IsSo (computed.Updated old new) (OfKey (answers.Replaced was is)) = (was ≡ old.word) × (is ≡ new.word)
+IsSo (computed.Removed old) (OfKey (answers.Removed word)) = word ≡ old.word
 IsSo (computed.Aborted end) answer = IsLeft answer
 IsSo done answer = ⊥
 
@@ -39,15 +41,19 @@ abbrev pub SaysAborted : {K V T : Type 0} → (Option (K × V) → Operation V T
 SaysAborted {K} {V} Gives (computed.Aborted end) = (about : Option (K × V)) × Gives about (operation.Abort end)
 SaysAborted Gives done = Unit {0}
 
--- a pair was stored, replaced or removed
-abbrev pub IsChange : {T : Type 0} → ComputedPair T → Type 0
-IsChange (computed.Aborted end) = ⊥
-IsChange done = Unit {0}
+-- the pair that was stored, or else the one that was removed
+abbrev pub named_by : {T : Type 0} → ComputedPair T → Option ℕ
+named_by (computed.Inserted new) = Some new.word
+named_by (computed.Updated old new) = Some new.word
+named_by (computed.Removed old) = Some old.word
+named_by (computed.Aborted end) = None
 
--- a pair was replaced
-abbrev pub is_updated : {T : Type 0} → ComputedPair T → Bool
-is_updated computed.Updated = true
-is_updated done = false
+-- the caller shows the pairs that it names
+abbrev pub ShowsNamed : {K V S T : Type 0} → MapCaller K V S → ComputedPair T → Type 0
+ShowsNamed c (computed.Inserted new) = Shows c new.word
+ShowsNamed c (computed.Updated old new) = Shows c old.word × Shows c new.word
+ShowsNamed c (computed.Removed old) = Shows c old.word
+ShowsNamed c (computed.Aborted end) = Unit {0}
 
 module _ {K V S T : Type 0} (same : K → K → Bool) (hash : S → K → ℕ) (Is : K → Type 0) (Gives : Option (K × V) → Operation V T → Type 0) where
   -- A call on a key that is so was told what is said, and has told this.
@@ -79,10 +85,6 @@ module _ {K V S T : Type 0} (same : K → K → Bool) (hash : S → K → ℕ) (
   abbrev pub HasStopped : Fault → View K V S → View K V S → Type 0
   HasStopped fault v w = (n : ℕ) × (u : View K V S) × HasLeft n v u × HasTriedOnce (Err fault) u w
 
--- it is told whether the pair that was there was replaced,
-abbrev pub HasUpdated : {K V S T : Type 0} → (K → K → Bool) → (S → K → ℕ) → (K → Type 0) → (Option (K × V) → Operation V T → Type 0) → Bool → View K V S → View K V S → Type 0
-HasUpdated {T = T} same hash Is Gives updated v w = (done : ComputedPair T) × HasComputed same hash Is Gives done v w × (updated ≡ is_updated done)
-
--- and that there is one in any case
-abbrev pub HasPut : {K V S T : Type 0} → (K → K → Bool) → (S → K → ℕ) → (K → Type 0) → (Option (K × V) → Operation V T → Type 0) → Bool → View K V S → View K V S → Type 0
-HasPut {T = T} same hash Is Gives updated v w = (done : ComputedPair T) × HasComputed same hash Is Gives done v w × IsChange done × (updated ≡ is_updated done)
+-- it is told the pair that this names, if it names one
+abbrev pub HasUpdated : {K V S T : Type 0} → (K → K → Bool) → (S → K → ℕ) → (K → Type 0) → (Option (K × V) → Operation V T → Type 0) → Option ℕ → View K V S → View K V S → Type 0
+HasUpdated {T = T} same hash Is Gives named v w = (done : ComputedPair T) × HasComputed same hash Is Gives done v w × (named_by done ≡ named)

@@ -11,17 +11,22 @@ use papaya_raw::machines::{Answer, KeyAnswer};
 use seize_words::Fault;
 use std::hash::Hash;
 use std::sync::Wait;
-use threads_calls::SessionBase;
+use threads_calls::{Found, SessionBase};
 
-/// What has become of a key by what was said.
-#[derive(Debug, Drop, PartialEq, Eq)]
+/// What has become of a key by what was said. The pairs that it names are there until the session takes its next step.
+#[derive(Drop)]
 pub enum ComputedPair<T> {
-    /// A pair was stored, where there was none.
-    Inserted,
-    /// The pair was replaced.
-    Updated,
-    /// The pair was removed.
-    Removed,
+    /// This pair was stored, where there was none.
+    Inserted(Found),
+    /// A pair was replaced.
+    Updated {
+        /// The one that was there.
+        old: Found,
+        /// The one that took its place.
+        new: Found,
+    },
+    /// This pair was removed.
+    Removed(Found),
     /// Nothing has changed, as was said with this.
     Aborted(T),
 }
@@ -33,9 +38,12 @@ fn done<E: Drop>(answer: Answer, end: Option<E>) -> Option<ComputedPair<E>>
     ensures left { IfNone result (IsLeft answer) }
 {
     match answer {
-        Answer::Key(KeyAnswer::Stored(_)) => Some(ComputedPair::Inserted),
-        Answer::Key(KeyAnswer::Replaced { .. }) => Some(ComputedPair::Updated),
-        Answer::Key(KeyAnswer::Removed(_)) => Some(ComputedPair::Removed),
+        Answer::Key(KeyAnswer::Stored(word)) => Some(ComputedPair::Inserted(Found { word })),
+        Answer::Key(KeyAnswer::Replaced { old, new }) => Some(ComputedPair::Updated {
+            old: Found { word: old },
+            new: Found { word: new },
+        }),
+        Answer::Key(KeyAnswer::Removed(word)) => Some(ComputedPair::Removed(Found { word })),
         Answer::Key(KeyAnswer::Absent | KeyAnswer::Found(_))
         | Answer::Reserved
         | Answer::Swept
@@ -46,29 +54,8 @@ fn done<E: Drop>(answer: Answer, end: Option<E>) -> Option<ComputedPair<E>>
     }
 }
 
-/// Begins a call that computes on this key, within the section of a session's slot, and runs it to its end. Answers what has become of the key, or nothing yet.
-fn tries_with<R: Wait, K: Eq + Hash + Drop, V: Drop, S: Hashes<K>, D: Decides<K, V>>(
-    session: &mut SessionBase<'_, K, V, S>,
-    rt: &R,
-    key: K,
-    decider: &D,
-) -> Result<Option<ComputedPair<D::End>>, Fault>
-    requires inside { session.old.caller.seat.view.slot ≡ Inside session.old.slot Nothing }
-    requires may { D.may decider.now }
-    ensures inside { session.new.caller.seat.view.slot ≡ Inside session.new.slot Nothing }
-    ensures slot { session.new.slot ≡ session.old.slot }
-    ensures tried { HasTriedOnce K.eq S.hash (λ its. its ≡ key) (D.gives decider.now) result session.old.caller.seat.view session.new.caller.seat.view }
-    ensures map { session.new.caller.seat.view.map ≡ session.old.caller.seat.view.map }
-    ensures blocks { session.new.caller.blocks ≡ session.old.caller.blocks }
-{
-    let ComputedOnce { told, near: _, end } = computed(session, rt, key, decider);
-    match told {
-        Ok(answer) => Ok(done(answer, end)),
-        Err(fault) => Err(fault),
-    }
-}
-
-/// Begins such a call on a clone of a key. Where there is no memory for that, none was begun.
+/// Begins a call that computes on a clone of a key, within the section of a session's slot, and runs it to its end. Answers what has become of the key, or nothing yet. Where there
+/// is no memory for the clone, none was begun.
 fn tries<R: Wait, K: Eq + Hash + Clone + Drop, V: Drop, S: Hashes<K>, D: Decides<K, V>>(
     session: &mut SessionBase<'_, K, V, S>,
     rt: &R,
@@ -83,9 +70,13 @@ fn tries<R: Wait, K: Eq + Hash + Clone + Drop, V: Drop, S: Hashes<K>, D: Decides
     ensures map { session.new.caller.seat.view.map ≡ session.old.caller.seat.view.map }
     ensures blocks { session.new.caller.blocks ≡ session.old.caller.blocks }
 {
-    match key.clone() {
-        Ok(its) => tries_with(session, rt, its, decider),
-        Err(_) => Err(Fault::Memory),
+    let Ok(its) = key.clone() else {
+        return Err(Fault::Memory);
+    };
+    let ComputedOnce { told, near: _, end } = computed(session, rt, its, decider);
+    match told {
+        Ok(answer) => Ok(done(answer, end)),
+        Err(fault) => Err(fault),
     }
 }
 

@@ -1,9 +1,9 @@
 //! Pairs are stored in a map, and removed from it, with a guard, which is a session: its own seat does so.
-ghost use Rattle.std.specs.Prelude.{◌≡◌, ◌≢◌, IfOk, IfErr, IfSome, is_some, option_map};
+ghost use Rattle.std.specs.Prelude.{◌≡◌, ◌≢◌, IfOk, IfErr, IfSome, is_some};
 ghost use Rattle.papaya_sessions.specs.Homes.{OneMap, home_at, home_of};
-ghost use Rattle.papaya_sessions.specs.OneMap.{MapCameToHave, MapGaveUp, MapGaveUpNamed, MapHasNamed, MapLacked, WasRefused};
+ghost use Rattle.papaya_sessions.specs.OneMap.{MapCameToHave, MapGaveUp, MapGaveUpNamed, MapHadBefore, MapHasNamed, MapLacked, WasRefused};
 ghost use Rattle.papaya_sessions.specs.Kept.{KeepsMap};
-ghost use Rattle.papaya_sessions.specs.Given.CallsAnswers.{CameBack, HasReplaced, has_stored};
+ghost use Rattle.papaya_sessions.specs.Given.CallsAnswers.{CameBack, has_stored};
 ghost use Rattle.papaya_sessions.specs.Given.CallsShown.{Shows};
 ghost use Rattle.papaya_sessions.specs.Given.ActsActs.{Insert, Remove, TryToInsert};
 ghost use Rattle.seize_words.specs.declared.fault.Fault.TheVariants.{ForeignGuard};
@@ -32,7 +32,7 @@ impl<'m, K: Eq + Hash + Drop, V: Drop, S: Hashes<K>> SharedMap<'m, K, V, S> {
         ensures own { IfOk result (λ _. guard.old.number ≡ self.now.number) }
         ensures foreign { guard.old.number ≢ self.now.number → IfErr result (λ r. r.fault ≡ ForeignGuard) × (guard.new ≡ guard.old) }
         ensures stored { IfOk result (λ old. MapCameToHave K.eq S.hash key value (is_some old) guard.old.base.caller guard.new.base.caller) }
-        ensures replaced { IfOk result (λ old. HasReplaced K.eq S.hash key value (option_map (λ found. found.word) old) guard.old.base.caller.seat.view guard.new.base.caller.seat.view) }
+        ensures before { IfOk result (λ old. IfSome old (λ found. MapHadBefore K.eq S.hash key value found.word guard.old.base.caller guard.new.base.caller)) }
         ensures shown { IfOk result (λ old. IfSome old (λ found. Shows guard.new.base.caller found.word)) }
         ensures refused { guard.old.number ≡ self.now.number → IfErr result (λ r. WasRefused K.eq S.hash (Insert key value) r.fault guard.old.base.caller guard.new.base.caller) }
         ensures back { IfErr result (λ r. (r.key ≡ key) × (r.value ≡ value)) }

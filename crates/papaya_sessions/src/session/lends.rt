@@ -2,11 +2,10 @@
 ghost use Rattle.std.specs.Prelude.{IfErr, IfOk, option_map};
 ghost use Rattle.std.specs.Borrow.{sem};
 ghost use Rattle.std.specs.Fn.{FnOnceReturns};
-ghost use Rattle.papaya_sessions.specs.Asked.{HasOneWith};
+ghost use Rattle.papaya_sessions.specs.Asked.{MapHasOneWith};
 ghost use Rattle.papaya_sessions.specs.Kept.{KeepsMap};
 ghost use Rattle.papaya_sessions.specs.Lent.{EndsSo};
 ghost use Rattle.papaya_sessions.specs.OneMap.{MapGaveUpPair, MapGaveUpValue, MapHasOne, WasRefused};
-ghost use Rattle.papaya_sessions.specs.Sessions.{HasBeenRefused};
 ghost use Rattle.play_moves.specs.Given.ActsActs.{Remove, TryToInsert, TryToInsertWith};
 ghost use Rattle.threads_updates.specs.Given.StepsAsking.{HasAsked, MakingSays};
 
@@ -74,8 +73,8 @@ impl<'m, K: Eq + Hash + Drop, V: Drop, S: Hashes<K>> Session<'m, K, V, S> {
         requires callable { F.pre make }
         ensures* had { sem 𝓛 (EndsSo K.row V.row S.row K.PartialEq S.Hashes self.entry (λ now. KeepsMap self.old now
             × HasAsked K.eq S.hash (MakingSays (FnOnceReturns F.FnOnce make tt)) (TryToInsertWith key) self.old.base.caller.seat.view now.base.caller.seat.view
-            × IfOk result (λ lent. HasOneWith K.eq S.hash key lent.now self.old.base.caller now.base.caller)
-            × IfErr result (λ fault. HasBeenRefused K.eq S.hash (TryToInsertWith key) fault self.old.base.caller now.base.caller))) }
+            × IfOk result (λ lent. MapHasOneWith K.eq S.hash key lent.now self.old.base.caller now.base.caller)
+            × IfErr result (λ fault. WasRefused K.eq S.hash (TryToInsertWith key) fault self.old.base.caller now.base.caller))) }
     {
         match self.base.try_insert_with(rt, key, make) {
             Ok((there, _)) => Ok(self.base.pair(there).1),

@@ -44,7 +44,7 @@ use Rattle.run_legal.specs.Given.EffectsDeclared.role.Role.TheVariants as role
 use Rattle.play_linear.specs.Given.PlayedPlay.{State as Played, call_for, outcome_of}
 use Rattle.run_legal.specs.Given.HistoriesEvents.{HasOutcome}
 use Rattle.play_moves.specs.OneHistory.Answered.{ByNewest, IfElse, IsItsEnd}
-use Rattle.play_moves.specs.OneHistory.Calls.{FoundNone, FoundValue, HasInserted, HasLooked, HasOne, HasRefused, HasRemoved, HasRemovedPair, HasTried, ItsCall, WasTaken, WasThere}
+use Rattle.play_moves.specs.OneHistory.Calls.{FoundNone, FoundValue, HasInserted, HasLooked, HasOne, HasRefused, HasRemoved, HasRemovedPair, HasTried, ItsCall, WasNamed, WasThere}
 use Rattle.play_moves.specs.OneHistory.Lookups.{WasHad, WasSo}
 use Rattle.play_moves.proofs.OneHistory.Answered.{IsIts, calls_its, runs, same_caller, same_map, same_wanted, such, tell}
 use Rattle.play_moves.proofs.OneHistory.Legal.{histories_are_legal}
@@ -332,7 +332,7 @@ module _ {K V S : Type 0} (same : K → K → Bool) (hash : S → K → ℕ) (fi
       → shown_in v.held (block_in word) ≡ Some (Pair stored value) → HasRemovedPair same hash fixed id v key (stored, value)
   has_removed_pair key word stored value began told shown =
       by_seen (Remove key) refl began (ap has_ended told) word stored value shown
-      (λ i m. WasTaken same i m key (stored, value)) (λ log e ends names.
+      (λ i m. WasNamed same i m (On (one_key.Remove key)) answers.Found (stored, value)) (λ log e ends names.
       let o = outcome_of ends.0 (kind_of (call_for {K = K} {V = V} (Remove key))) ends.1 run.told in
       let on = ends.4 (one_key.Remove key) refl in
       let by = taken ends.0 on.0 key word o (subst (λ (p : Progress (Node K V)). HasOutcome ends.0 (one_key.Remove key) on.0 p o) told on.1) in

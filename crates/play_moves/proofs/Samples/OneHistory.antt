@@ -25,7 +25,7 @@ use Rattle.run_schedules.specs.Given.RawDeclared.machines.answer.KeyAnswer.TheVa
 use Rattle.run_schedules.specs.Given.RawDeclared.machines.progress.Answer.TheVariants.{Key}
 use Rattle.run_schedules.specs.Given.RawDeclared.machines.progress.Progress.TheVariants as progress
 use Rattle.threads_rule.specs.Views.Listed.{Called}
-use Rattle.play_moves.specs.OneHistory.Calls.{WasTaken}
+use Rattle.play_moves.specs.OneHistory.Calls.{WasNamed}
 use Rattle.play_moves.specs.OneHistory.Lookups.{IsLookedUp, WasHad, WasSo}
 use Rattle.play_moves.specs.OneHistory.Order.{HaveGot}
 use Rattle.run_schedules.proofs.Given.General.{either, true_not_false as none_no, same_some}
@@ -185,7 +185,7 @@ taking is = the (call_of (named 2) (moment removed)) is
 abbrev taken : Entry ℕ ℕ
 taken = entry (Steps 2) (Answered (answer.Found 1)) []
 
-was_taken : WasTaken nat_eq 2 0 1 (1, 10) removed taken
+was_taken : WasNamed nat_eq 2 0 (On (Remove 1)) answer.Found (1, 10) removed taken
 was_taken = (
   1,
   record { deed = refl; comes = refl; there = (taking refl).0; here = (taking refl).1; on = refl; what = refl; right = record { changes = inl refl; ends = refl; asks = tt } },
@@ -193,7 +193,7 @@ was_taken = (
 )
 
 -- wrong: with another value.
-took_other : WasTaken nat_eq 2 0 1 (1, 11) removed taken → ⊥
+took_other : WasNamed nat_eq 2 0 (On (Remove 1)) answer.Found (1, 11) removed taken → ⊥
 took_other (number, is, pair) =
     let comes = is.comes in let one : number ≡ 1 = cc comes in two_values 1 (subst (λ (n : ℕ). pair_at (moment (taken ∷ removed)).stored n ≡ Some (1, 11)) one pair)
 

@@ -3,8 +3,8 @@ use Rattle.std.proofs.Common.{◌≡◌, ℕ, Bool, true, false, List, Option, S
 use Rattle.std.specs.Prelude.{IfSome}
 use Rattle.std.specs.Io.KnownBytes.{Appends}
 use Rattle.reclaimed_script.specs.declared.parser.Script.{Script}
-use Rattle.reclaimed_engine.specs.Lines.Engine.{EndsWith, IsTextFor, ReportsFailure}
-use Rattle.reclaimed_engine.specs.PrintedText.Output.{Writes}
+use Rattle.reclaimed_engine.specs.Lines.Engine.{EndsWith, IsTextFor}
+use Rattle.reclaimed_script.specs.Outputs.{ReportsFailure, Writes}
 use Rattle.reclaimed_script.specs.Reading.{Answers}
 
 -- where the script was read and its text was written, or that write failed

@@ -11,8 +11,9 @@ use Rattle.run_schedules.specs.declared.effect.Thing.TheVariants.{APair, ATable}
 use Rattle.run_schedules.specs.declared.outcome.Outcome.TheVariants.{Goes, Asks, Waits, Ready, Shows, Answered}
 use Rattle.run_schedules.specs.declared.ended.Living.{Living}
 use Rattle.run_schedules.specs.Schedules.Runs.{pair_of}
+use Rattle.reclaimed_script.specs.Outputs.{refused_line}
 use Rattle.reclaimed_engine.specs.PrintedText.Ascending.{ascending}
-use Rattle.reclaimed_engine.specs.PrintedText.Text.{WordPair, WordRun, answer_line, back_lines, entry, fault_line, key_and_value, name_number, map_line, outcome_line, refused_line, shape_line, tag, waiting_line}
+use Rattle.reclaimed_engine.specs.PrintedText.Text.{WordPair, WordRun, answer_line, back_lines, entry, fault_line, key_and_value, name_number, map_line, outcome_line, shape_line, tag, waiting_line}
 
 light : WordPair
 light = record { number = 4; key = 7; value = codes "x" }

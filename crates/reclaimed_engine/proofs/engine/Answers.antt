@@ -1,5 +1,5 @@
 use Rattle.std.proofs.Common.{subst}
-use Rattle.reclaimed_engine.specs.PrintedText.Output.{Writes, has_failed, writer_of}
+use Rattle.reclaimed_script.specs.Outputs.{Writes, has_failed, writer_of}
 use Rattle.reclaimed_engine.proofs.Lines.EngineLemmas.{written}
 use Rattle.reclaimed_engine.proofs.engine.Goals as goal
 

@@ -1,10 +1,11 @@
 -- What the program writes for what it reads.
-use Rattle.std.specs.Prelude.{◌≡◌, ◌^◌, ℕ, min, Bool, true, false, nat_eq, List, Option, Ok, Err, codes, ◌⊎◌}
-use Rattle.std.specs.Io.KnownBytes.{Keeps, Appends}
+use Rattle.std.specs.Prelude.{◌≡◌, ◌^◌, ℕ, min, true, false, nat_eq, List, Ok, Err, codes, ◌⊎◌}
+use Rattle.std.specs.Io.KnownBytes.{Appends, Keeps}
 use Rattle.reclaimed_script.specs.declared.fault.ScriptStop.{ScriptStop}
 use Rattle.reclaimed_script.specs.declared.fault.ScriptStop.TheVariants.{Line, ReadFailed, NoMemory}
 use Rattle.reclaimed_script.specs.FaultTexts.{fault_text}
 use Rattle.reclaimed_script.specs.Lines.{ScriptEvent}
+use Rattle.reclaimed_script.specs.Outputs.{ReportsFailure, SaysOnly, Streams}
 use Rattle.reclaimed_script.specs.Reading.{Answers}
 use Rattle.run_schedules.specs.Schedules.Runs.{IsRunOf}
 use Rattle.run_schedules.specs.Schedules.Terms.{Terms}
@@ -16,25 +17,6 @@ abbrev pub stop_line : ScriptStop → List ℕ
 stop_line (Line number fault) = fault_line number (fault_text fault)
 stop_line (ReadFailed lines) = fault_line lines (codes "read failed")
 stop_line (NoMemory lines) = fault_line lines (codes "no memory")
-
--- what is known of the bytes that the input has left, and that the two outputs held before and hold after
-pub record Streams : Type 0 where
-  pub left : Option (List ℕ)
-  pub output_before : Option (List ℕ)
-  pub output_after : Option (List ℕ)
-  pub output_failed : Bool  -- a write to it has failed
-  pub errors_before : Option (List ℕ)
-  pub errors_after : Option (List ℕ)
-  pub errors_failed : Bool
-
--- this line, and nothing else, is written, on the errors, unless that write fails
-abbrev pub SaysOnly : List ℕ → Streams → Type 0
-SaysOnly line s = Keeps s.output_before s.output_after × (s.errors_failed ≡ false → Appends s.errors_before s.errors_after line)
-
--- that a write failed is told by a line on the errors, unless that write fails, too; else nothing is written there
-abbrev pub ReportsFailure : Bool → Bool → Option (List ℕ) → Option (List ℕ) → Type 0
-ReportsFailure true errors_failed before after = errors_failed ≡ false → Appends before after (codes "write failed\n")
-ReportsFailure false errors_failed before after = Keeps before after
 
 -- with what a script is run
 abbrev pub terms_of : List ScriptEvent → Terms

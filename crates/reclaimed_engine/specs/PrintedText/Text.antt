@@ -3,7 +3,6 @@ use Rattle.std.specs.Prelude.{ℕ, ◌+◌, ◌*◌, ◌/◌, ◌%◌, ◌^◌, 
 use Rattle.std.specs.List.{flat_map, filter_map, zip}
 use Rattle.std.specs.Fmt.{decimal}
 use Rattle.std.specs.Global.{Vec}
-use Rattle.seize_words.specs.declared.fault.Fault.{Fault}
 use Rattle.run_schedules.specs.declared.call.Response.{Response}
 use Rattle.run_schedules.specs.declared.call.Response.TheVariants.{Absent, Found, Stored, Occupied, Kept, Inserted, Updated, Removed, Aborted, Completed, Counted}
 use Rattle.run_schedules.specs.declared.effect.Effect.{Effect}
@@ -15,7 +14,7 @@ use Rattle.run_schedules.specs.declared.record.Run.{Run}
 use Rattle.run_schedules.specs.declared.shapes.TableShape.{TableShape}
 use Rattle.run_schedules.specs.declared.ended.Living.{Living}
 use Rattle.run_schedules.specs.declared.ended.Pair.{Pair}
-use Rattle.seize_words.specs.OneMemory.Fault.{number_of, name_of}
+use Rattle.reclaimed_script.specs.Outputs.{line, refused_line}
 use Rattle.reclaimed_engine.specs.PrintedText.Ascending.{ascending}
 use Rattle.run_schedules.specs.Schedules.Runs.{pair_of}
 
@@ -25,10 +24,6 @@ WordPair = Pair ℕ (List ℕ)
 
 abbrev pub WordRun : Type 0
 WordRun = Run ℕ (List ℕ)
-
--- a line ends in a line feed
-abbrev pub line : List ℕ → List ℕ
-line text = text ++ codes "\n"
 
 -- ` #n`
 abbrev pub tag : ℕ → List ℕ
@@ -42,10 +37,6 @@ key_and_value (Some pair) = codes " " ++ decimal pair.key ++ codes " " ++ pair.v
 -- ` #n k v`, the number, the key and the value of a pair
 abbrev pub numbered : WordRun → ℕ → List ℕ
 numbered run number = tag number ++ key_and_value (pair_of run number)
-
--- the line of an event that was refused: the fault's number and name
-abbrev pub refused_line : Fault → List ℕ
-refused_line fault = line (codes "refused " ++ decimal (number_of fault) ++ codes " " ++ name_of fault)
 
 -- the line of a call that was answered
 abbrev pub answer_line : WordRun → Response (List ℕ) → List ℕ

@@ -18,8 +18,7 @@ use seize_views::OfRows;
 use seize_views::turns::{Leaning, Returning};
 use seize_words::At;
 
-/// A seat that takes steps under a caller whose section is open, and who is lent for that: any number of passes may do so at a time. Between two calls it
-/// rests.
+/// A seat that takes steps under a caller whose section is open, and is lent for that: any number of passes may do so at a time. Between two calls it rests.
 pub struct PassSeat<T: Defers> {
     seat: Seat<T, OfRows>,
     ghost rests: { seat.view.knows ≡ Rests },

@@ -46,6 +46,7 @@ no_row (view.Bears b) r = refl
 no_row (view.Joins block) r = refl
 no_row (view.Watches t b) r = refl
 no_row (view.Under n t b) r = refl
+no_row (view.Defers t c) r = absurd r
 no_row (view.Busy t) r = absurd r
 
 module _ {T : Type 0} (defers : T → Option ℕ) (left_over : T → Bool) where

@@ -5,7 +5,7 @@ use Rattle.std.proofs.lemmas.Bool.{eqb-false}
 use Rattle.seize_shared.specs.OnThreads.Standing.{standing}
 use Rattle.seize_views.specs.Views.Promises.{IsLooking}
 use Rattle.seize_views.specs.declared.view.SlotView.{SlotView}
-use Rattle.seize_views.specs.declared.view.SlotView.TheVariants.{Rests, Registers, Outside, Owes, Enters, Inside, Settles, Leaves, Left, Frees, Brings, Bears, Watches, Under, Joins, Busy}
+use Rattle.seize_views.specs.declared.view.SlotView.TheVariants.{Rests, Registers, Outside, Owes, Enters, Inside, Settles, Leaves, Left, Frees, Brings, Bears, Watches, Under, Joins, Defers, Busy}
 use Rattle.seize_views.specs.declared.view.Has.{Has}
 use Rattle.seize_views.specs.declared.view.Has.TheVariants.{Nothing, Made, Seen, Both, Cut, Walks}
 use Rattle.seize_words.proofs.General.{same_some}
@@ -62,6 +62,7 @@ module _ {T : Type 0} (t : ℕ) where
   inside k (Watches s b) e = absurd (cc e)
   inside k (Under n s b) e = absurd (cc e)
   inside k (Joins block) e = absurd (cc e)
+  inside k (Defers s c) e = absurd (cc e)
   inside k (Busy s) e = absurd (cc e)
 
   pub is_inside : (k : ℕ) (v : SlotView T) → standing v ≡ Some (stands t true k) → (has : Has T) × IsLooking has × (v ≡ Inside t has)

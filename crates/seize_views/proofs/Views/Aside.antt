@@ -7,7 +7,8 @@ use Rattle.seize_acts.specs.Acts.Waits.{SettlesOn}
 use Rattle.seize_acts.specs.Bounds.Bounds.{IsAloneOnSlot}
 use Rattle.seize_views.specs.Views.Rows.{row_of, use_of, used_for}
 use Rattle.seize_views.specs.declared.view.SlotView.{SlotView}
-use Rattle.seize_views.specs.declared.view.SlotView.TheVariants.{Rests, Registers, Outside, Owes, Enters, Inside, Settles, Leaves, Left, Frees, Brings, Bears, Watches, Under, Joins, Busy}
+use Rattle.seize_views.specs.declared.view.SlotView.TheVariants.{Rests, Registers, Outside, Owes, Enters, Inside, Settles, Leaves, Left, Frees, Brings, Bears, Watches, Under, Joins, Defers, Busy}
+use Rattle.seize_views.specs.declared.view.Deferral.TheVariants.{Takes, Parts, Puts}
 use Rattle.seize_views.specs.declared.view.Why.TheVariants.{Retiring, Ending}
 
 -- the slot that the row of a seat settles on is the seat's
@@ -28,6 +29,9 @@ settles_used (Bears b) s on = absurd on
 settles_used (Watches t b) s on = absurd on
 settles_used (Under n t b) s on = absurd on
 settles_used (Joins block) s on = absurd on
+settles_used (Defers t (Takes a y made)) s on = absurd on
+settles_used (Defers t (Parts a y b x)) s on = absurd on
+settles_used (Defers t (Puts a c)) s on = absurd on
 settles_used (Busy t) s on = absurd on
 
 module _ {T : Type 0} (w : World T) (view : ℕ → Option (SlotView T)) (rows : (j : ℕ) (v : SlotView T) → view j ≡ Some v → w.row j ≡ row_of v)

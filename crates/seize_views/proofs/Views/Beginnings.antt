@@ -15,7 +15,7 @@ use Rattle.seize_views.specs.Views.Promises.{IsNext, RulesStart, SeatsCome, Rows
 use Rattle.seize_views.specs.declared.view.SlotView.{SlotView}
 use Rattle.seize_views.specs.declared.view.Becomes.{Becomes}
 use Rattle.seize_views.specs.declared.view.Becomes.TheVariants.{Idle, Active}
-use Rattle.seize_views.specs.declared.view.SlotView.TheVariants.{Rests, Registers, Outside, Owes, Enters, Inside, Settles, Leaves, Left, Frees, Brings, Bears, Watches, Under, Joins, Busy}
+use Rattle.seize_views.specs.declared.view.SlotView.TheVariants.{Rests, Registers, Outside, Owes, Enters, Inside, Settles, Leaves, Left, Frees, Brings, Bears, Watches, Under, Joins, Defers, Busy}
 use Rattle.seize_views.specs.declared.view.Has.TheVariants.{Nothing, Made, Seen, Both, Cut, Walks}
 use Rattle.seize_views.specs.declared.view.Fixed.{Fixed}
 use Rattle.seize_views.proofs.Views.Found.{found_at}
@@ -92,7 +92,7 @@ module _ {T : Type 0} (defers : T → Option ℕ) (fixed : Fixed) where
     where
       fit : (j : ℕ) (x : SlotView T) → (view_of s j ≡ Some x) ⊎ ((view_of s j ≡ None) × (Rests ≡ x)) → Fits defers s.world j x
       fit j x (inl e) = h.seats j x e
-      fit j x (inr e) = subst (λ (y : SlotView T). Fits defers s.world j y) e.1 (record { row = h.unborn j e.0; slot = tt; short = tt; known = tt })
+      fit j x (inr e) = subst (λ (y : SlotView T). Fits defers s.world j y) e.1 (record { row = h.unborn j e.0; slot = tt; short = tt; known = tt; its_own = tt })
 
       bound : (j : ℕ) (x : SlotView T) → (view_of s j ≡ Some x) ⊎ ((view_of s j ≡ None) × (Rests ≡ x)) → IsBounded defers fixed s.world j x
       bound j x (inl e) = h.bounded j x e
@@ -201,4 +201,5 @@ module _ (T : Type 0) (defers : T → Option ℕ) where
   settlings_begin fixed id (Watches t b) way c is = absurd is
   settlings_begin fixed id (Under n t b) way c is = absurd is
   settlings_begin fixed id (Joins block) way c is = absurd is
+  settlings_begin fixed id (Defers t d) way c is = absurd is
   settlings_begin fixed id (Busy t) way c is = absurd is

@@ -241,10 +241,11 @@ module _ {T : Type 0} (defers : T → Option ℕ) (fixed : Fixed) (s : State T (
 
   -- the block that was made is given another value, which keeps its list in the same word
 
-  -- a block that another one has, or the collector, is another block
+  -- a block that another one has, or the collector, or that is held, is another block
   apart : (b : ℕ) → ((i : ℕ) × (w.hand b ≡ world.Making i)) → had_in had ≡ Some b → (c : ℕ) → IsOthers defers fixed s id c → c ≡ b → ⊥
   apart b making had_it c (inl its) is = its.2 (h.sole its.0 id b its.1 v its.3 at (its.4 ∙ ap Some is) (in_its ∙ had_it))
-  apart b making had_it c (inr handed) is = let same = ap w.hand is in let mine = making.1 in cc (same, handed, mine)
+  apart b making had_it c (inr (inl handed)) is = let same = ap w.hand is in let mine = making.1 in cc (same, handed, mine)
+  apart b making had_it c (inr (inr held)) is = making_not_held defers fixed.batch_size w r making.0 held.0 b c held.2 making.1 is
 
   rewrites_with : (b : ℕ) (x y : T) → IsMade w b x → had_in had ≡ Some b → defers y ≡ defers x → (after : Has T) → had_in after ≡ Some b
       → ((n : World T) → IsMade n b y → ((c : ℕ) → holds t c w.log ≡ true → holds t c n.log ≡ true) → IsInHand defers n t after)

@@ -17,7 +17,7 @@ use Rattle.seize_views.specs.declared.view.Fixed.{Fixed}
 use Rattle.seize_views.specs.declared.view.Has.TheVariants.{Nothing, Made, Seen, Both, Cut, Walks}
 use Rattle.seize_views.specs.declared.view.Noted.{Noted}
 use Rattle.seize_views.specs.declared.view.SlotView.{SlotView}
-use Rattle.seize_views.specs.declared.view.SlotView.TheVariants.{Rests, Registers, Outside, Owes, Enters, Inside, Settles, Leaves, Left, Frees, Brings, Bears, Watches, Under, Joins, Busy}
+use Rattle.seize_views.specs.declared.view.SlotView.TheVariants.{Rests, Registers, Outside, Owes, Enters, Inside, Settles, Leaves, Left, Frees, Brings, Bears, Watches, Under, Joins, Defers, Busy}
 use Rattle.seize_views.specs.declared.view.Why.TheVariants.{Retiring, Ending}
 use Rattle.seize_views.proofs.Views.Beginnings.{rows_turn, settlings_begin}
 use Rattle.seize_views.proofs.Views.GoesOn.{rows_go_on}
@@ -63,6 +63,7 @@ module _ {T : Type 0} (fixed : Fixed) where
   next_own (Watches t b) u is = absurd is
   next_own (Under n t b) u is = absurd is
   next_own (Joins block) u is = absurd is
+  next_own (Defers t c) u is = absurd is
   next_own (Busy t) u is = absurd is
 
 -- notes are the same where each of them is

@@ -30,7 +30,7 @@ module _ {T : Type 0} where
   found_at fixed m n b has now same still (world.Making h) f = still (world.Making h) f
   found_at fixed m n b has now same still (world.InUse r) (inl f) = inl (f.0, ap (λ (l : List ℕ). slice_get l r) same ∙ f.1, f.2)
   found_at fixed m n b has now same still (world.InUse r) (inr chain) = inr chain
-  found_at fixed m n b has now same still (world.Parting h) f = f
+  found_at fixed m n b has now same still (world.Parting h) f = still (world.Parting h) f
   found_at fixed m n b has now same still (world.Cutting h) f = still (world.Cutting h) f
   found_at fixed m n b has now same still world.Handed f = tt
   found_at fixed m n b has now same still (world.LeftTo h) f = f
@@ -40,7 +40,7 @@ module _ {T : Type 0} where
   found_as fixed m b has hand world.NoBlock is so f = tt
   found_as fixed m b has hand (world.Making h) is so f = so (world.Making h) is
   found_as fixed m b has hand (world.InUse r) is so f = f
-  found_as fixed m b has hand (world.Parting h) is so f = f
+  found_as fixed m b has hand (world.Parting h) is so f = so (world.Parting h) is
   found_as fixed m b has hand (world.Cutting h) is so f = so (world.Cutting h) is
   found_as fixed m b has hand world.Handed is so f = tt
   found_as fixed m b has hand (world.LeftTo h) is so f = f

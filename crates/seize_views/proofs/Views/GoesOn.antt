@@ -9,7 +9,7 @@ use Rattle.seize_views.specs.Views.Rows.{head_of}
 use Rattle.seize_views.specs.Views.Told.{told}
 use Rattle.seize_views.specs.Views.Promises.{op_of, RowsContinue}
 use Rattle.seize_views.specs.declared.view.SlotView.{SlotView}
-use Rattle.seize_views.specs.declared.view.SlotView.TheVariants.{Rests, Registers, Outside, Owes, Enters, Inside, Settles, Leaves, Left, Frees, Brings, Bears, Watches, Under, Joins, Busy}
+use Rattle.seize_views.specs.declared.view.SlotView.TheVariants.{Rests, Registers, Outside, Owes, Enters, Inside, Settles, Leaves, Left, Frees, Brings, Bears, Watches, Under, Joins, Defers, Busy}
 use Rattle.seize_views.specs.declared.view.Fixed.{Fixed}
 use Rattle.seize_views.proofs.Views.InWorld.{IsJustSo, just_so, IsLikeness, HasRow, MayMake}
 use Rattle.seize_views.proofs.Views.Lifted.{has_row, makes}
@@ -32,6 +32,7 @@ module _ {T : Type 0} (defers : T → Option ℕ) (fixed : Fixed) (Is : Use → 
   goes_on (Watches t b) op h e = absurd (cc e)
   goes_on (Under n t b) op h e = absurd (cc e)
   goes_on (Joins block) op h e = absurd (cc e)
+  goes_on (Defers t c) op h e = absurd (cc e)
   goes_on (Busy t) op h e = absurd (cc e)
   goes_on (Owes t b) op h e = absurd (cc e)
   goes_on (Enters t) op h e = subst (May (Enters t)) (same_some (Store (Slot t HEAD) ACTIVE) op e) (enters defers fixed Is like w i t h)

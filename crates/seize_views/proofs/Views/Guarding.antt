@@ -1,5 +1,5 @@
 -- A seat watches the open section of another one's slot: it begins, looks at roots, is shown what it has seen, and ends.
-use Rattle.std.specs.Prelude.{◌≢◌, ◌<◌, Option, Some, None, IsSome, length, map, slice_set, ◌==◌}
+use Rattle.std.specs.Prelude.{◌≢◌, ◌<◌, Option, Some, None, IsSome, map, slice_set, ◌==◌}
 use Rattle.std.proofs.Common.{◌≡◌, ℕ, ◌+◌, ◌-◌, true, [], inl, inr, refl, sym, subst, ap, ◌∙◌, arith}
 use Rattle.std.proofs.lemmas.Bool.{eq-eqb, ne_eqb}
 use Rattle.seize_words.specs.OneMemory.Mem.{Mem, Took, value_at}
@@ -12,8 +12,7 @@ use Rattle.seize.specs.World as world
 use Rattle.seize_acts.proofs.Given.SeizeAloneHistories.NotTaken.{IsHeld, kept_there}
 use Rattle.seize_seats.specs.Seats.State.{State, view_of, Allows}
 use Rattle.seize_seats.specs.Seats.Lendings.{VisibleTo}
-use Rattle.seize_views.specs.Views.Chains.{Chain}
-use Rattle.seize_views.specs.Views.Rows.{Leads, RootsNameLinked, Holds, row_of, use_of, hand_of, IsShort, IsKnown, IsBounded}
+use Rattle.seize_views.specs.Views.Rows.{Leads, Holds, row_of, use_of, hand_of, IsShort, IsKnown, IsItsOwn, IsBounded}
 use Rattle.seize_views.specs.Views.Told.{told}
 use Rattle.seize_views.specs.Views.Watched.{one, open_at, is_watching, LeansOn, watchers, watching, known_by}
 use Rattle.seize_views.specs.Views.Notes.{noted, as_known, deed, NotedHolds, NotedKeeps, noted_observed, Begins, Ends, WatchesBegin, WatchesEnd, WatchersSee, WatchedAreShown}
@@ -26,11 +25,10 @@ use Rattle.seize_views.specs.declared.view.Has.TheVariants.{Nothing}
 use Rattle.seize_views.specs.declared.view.Fixed.{Fixed}
 use Rattle.seize_views.specs.Views.Resting.{open_leans}
 use Rattle.seize_views.proofs.Views.Came.{reached}
-use Rattle.seize_views.proofs.Views.Found.{found_on}
 use Rattle.seize_views.proofs.Views.Handing.{Meeting, met}
 use Rattle.seize_views.proofs.Views.Notes.{seen_at, goes, meets}
 use Rattle.seize_views.proofs.Views.Roots.{root_held}
-use Rattle.seize_views.proofs.Views.Users.{users_on}
+use Rattle.seize_views.proofs.Views.Users.{stands}
 use Rattle.seize_views.proofs.Views.Watched.{some_watch, watches_open}
 use Rattle.seize_views.proofs.Views.Written.{root_can}
 use Rattle.seize_words.proofs.General.{same_some}
@@ -39,7 +37,7 @@ module _ {T : Type 0} (defers : T → Option ℕ) (fixed : Fixed) where
   module _ (s : State T (SlotView T) (World T)) (i j : ℕ) (u : SlotView T) (h : Holds defers fixed s) (at_j : view_of s j ≡ Some u) (apart : i ≢ j) where
     begins_so : (t : ℕ) (at_i : view_of s i ≡ Some Rests) → Meeting defers fixed s i j Rests u h at_i at_j apart (Watches t 0) u
     begins_so t at_i = let f = h.seats i Rests at_i in record {
-      one = record { row = f.row; slot = tt; short = tt; known = tt };
+      one = record { row = f.row; slot = tt; short = tt; known = tt; its_own = tt };
       other = h.seats j u at_j;
       one_bound = tt;
       other_bound = h.bounded j u at_j;
@@ -55,7 +53,7 @@ module _ {T : Type 0} (defers : T → Option ℕ) (fixed : Fixed) where
 
     ends_so : (t b : ℕ) (at_i : view_of s i ≡ Some (Watches t b)) → Meeting defers fixed s i j (Watches t b) u h at_i at_j apart Rests u
     ends_so t b at_i = let f = h.seats i (Watches t b) at_i in record {
-      one = record { row = f.row; slot = tt; short = tt; known = tt };
+      one = record { row = f.row; slot = tt; short = tt; known = tt; its_own = tt };
       other = h.seats j u at_j;
       one_bound = tt;
       other_bound = h.bounded j u at_j;
@@ -71,31 +69,15 @@ module _ {T : Type 0} (defers : T → Option ℕ) (fixed : Fixed) where
 
   -- a seat that has no row under way and no block in its hand goes on, and the memory stays as it is
   pub aside_on : (s : State T (SlotView T) (World T)) (id : ℕ) (v x : SlotView T) (h : Holds defers fixed s) (at : view_of s id ≡ Some v) → row_of v ≡ world.Rests
-      → row_of x ≡ world.Rests → use_of x ≡ use_of v → IsShort x → hand_of v ≡ None → hand_of x ≡ None → IsKnown defers s.world x → IsBounded defers fixed s.world id x
+      → row_of x ≡ world.Rests → use_of x ≡ use_of v → IsShort x → hand_of v ≡ None → hand_of x ≡ None → IsKnown defers s.world x → IsItsOwn s.world id x → IsBounded defers fixed s.world id x
       → (m : Mem T) → m ≡ s.memory → (so : SlotView T → Type 0) → so x → Leads defers fixed s m id so
-  aside_on s id v x h at rests still same_use short empty hand known bounded m same so is =
-      users_on defers fixed s id 0 v x h at rests still same_use short m s.world Nothing (record {
-        since = ([], refl);
-        memory = same ∙ h.memory;
-        row = refl;
-        uses = refl;
-        in_hand = tt;
-        hands = λ j d x ne e q. refl;
-        sole = λ j d x ne e q p. cc p;
-        values = λ d its some some2. refl;
-        links = λ d apart some. (refl, refl);
-        chains = λ r is. subst (λ (x : Mem T). Chain defers x s.world.hand r) (sym same) (h.chains r is);
-        held = λ a d held. held;
-        over = λ a d held. refl;
-        roots = subst (λ (x : Mem T). RootsNameLinked x s.world.hand) (sym same) h.roots;
-        rooted = ap (λ (x : Mem T). length x.roots) same ∙ h.rooted;
-        passes = λ j ne was now. ([], refl);
-      }) (λ b. found_on defers fixed s id v h at None m (ap (λ (x : Mem T). x.roots) same) b (λ mine. absurd (cc (empty, mine)))) hand known bounded so is
+  aside_on s id v x h at rests still same_use short empty hand known own bounded m same so is =
+      stands defers fixed s id 0 v x h at rests still same_use short m same Nothing tt empty hand known own bounded so is
 
   -- who watches sees what a root names
   looks : (s : State T (SlotView T) (World T)) (id t b c : ℕ) (h : Holds defers fixed s) (at : view_of s id ≡ Some (Watches t b)) (m : Mem T) → m ≡ s.memory
       → (so : SlotView T → Type 0) → so (Watches t c) → Leads defers fixed s m id so
-  looks s id t b c h at m same so is = aside_on s id (Watches t b) (Watches t c) h at refl refl refl tt refl refl tt tt m same so is
+  looks s id t b c h at m same so is = aside_on s id (Watches t b) (Watches t c) h at refl refl refl tt refl refl tt tt tt m same so is
 
   sees : (s : State T (SlotView T) (World T)) (id t b r : ℕ) (h : Holds defers fixed s) (at : view_of s id ≡ Some (Watches t b)) (out : Out T) (m : Mem T)
       → Took s.memory (Load (Root r)) out m → Leads defers fixed s m id (told defers (Watches t b) (Load (Root r)) out)

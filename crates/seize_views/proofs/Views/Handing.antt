@@ -8,7 +8,7 @@ use Rattle.seize_views.specs.Views.Begun.{Hands}
 use Rattle.seize_views.specs.Views.Promises.{BorneAreHandedOn}
 use Rattle.seize_views.specs.Views.Rows.{use_of, hand_of, had_in, IsInSomeHand, Fits, IsBounded, Holds}
 use Rattle.seize_views.specs.declared.view.SlotView.{SlotView}
-use Rattle.seize_views.specs.declared.view.SlotView.TheVariants.{Rests, Registers, Outside, Owes, Enters, Inside, Settles, Leaves, Left, Frees, Brings, Bears, Watches, Under, Joins, Busy}
+use Rattle.seize_views.specs.declared.view.SlotView.TheVariants.{Rests, Registers, Outside, Owes, Enters, Inside, Settles, Leaves, Left, Frees, Brings, Bears, Watches, Under, Joins, Defers, Busy}
 use Rattle.seize_views.specs.declared.view.Has.{Has}
 use Rattle.seize_views.specs.declared.view.Has.TheVariants.{Nothing, Made, Seen, Both, Cut, Walks}
 use Rattle.seize_views.specs.declared.view.Fixed.{Fixed}
@@ -152,8 +152,8 @@ module _ {T : Type 0} (defers : T → Option ℕ) (fixed : Fixed) (i j t b : ℕ
         Rests,
         Owes t b,
         met defers fixed s i j (Bears b) (Outside t) h at_i at_j apart Rests (Owes t b) (record {
-          one = record { row = f.row; slot = tt; short = tt; known = tt };
-          other = record { row = g.row; slot = g.slot; short = tt; known = f.known };
+          one = record { row = f.row; slot = tt; short = tt; known = tt; its_own = tt };
+          other = record { row = g.row; slot = g.slot; short = tt; known = f.known; its_own = tt };
           one_bound = tt;
           other_bound = tt;
           one_use = refl;
@@ -174,8 +174,8 @@ module _ {T : Type 0} (defers : T → Option ℕ) (fixed : Fixed) (i j t b : ℕ
   cuts has empty s h at_i at_j apart =
       let f = h.seats i (Bears b) at_i in let g = h.seats j (Inside t has) at_j in
       met defers fixed s i j (Bears b) (Inside t has) h at_i at_j apart Rests (Inside t (Cut b)) (record {
-        one = record { row = f.row; slot = tt; short = tt; known = tt };
-        other = record { row = g.row; slot = g.slot; short = tt; known = f.known };
+        one = record { row = f.row; slot = tt; short = tt; known = tt; its_own = tt };
+        other = record { row = g.row; slot = g.slot; short = tt; known = f.known; its_own = tt };
         one_bound = tt;
         other_bound = tt;
         one_use = refl;
@@ -212,4 +212,5 @@ module _ (T : Type 0) (defers : T → Option ℕ) where
   borne_are_handed_on fixed i j b (Watches t c) takes = absurd takes
   borne_are_handed_on fixed i j b (Under n t c) takes = absurd takes
   borne_are_handed_on fixed i j b (Joins block) takes = absurd takes
+  borne_are_handed_on fixed i j b (Defers t c) takes = absurd takes
   borne_are_handed_on fixed i j b (Busy t) takes = absurd takes

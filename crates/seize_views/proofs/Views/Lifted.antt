@@ -7,8 +7,9 @@ use Rattle.seize.specs.World.{World, Use}
 use Rattle.seize_acts.specs.Acts.Waits.{SettlesOn}
 use Rattle.seize_seats.specs.Seats.State.{State, view_of}
 use Rattle.seize_views.specs.Views.Chains.{all_roots}
-use Rattle.seize_views.specs.Views.Rows.{use_of, IsUsed, Holds, Leads}
+use Rattle.seize_views.specs.Views.Rows.{use_of, IsUsed, IsPlain, IsItsOwn, Holds, Leads}
 use Rattle.seize_views.specs.declared.view.SlotView.{SlotView}
+use Rattle.seize_views.specs.declared.view.SlotView.TheVariants.{Defers}
 use Rattle.seize_views.specs.declared.view.Fixed.{Fixed}
 use Rattle.seize_views.proofs.Views.Aside.{has_it, alone_on_slot}
 use Rattle.seize_views.proofs.Views.InWorld.{IsJustSo, IsUsedLike, HasRow, Went, GoesTo, MayMake, BeginsTo}
@@ -23,6 +24,11 @@ module _ {T : Type 0} (w : World T) where
   used_like : (o : Option (ℕ × Use)) → IsUsedLike IsJustSo w o → IsUsed w o
   used_like None is = tt
   used_like (Some slot) is = is
+
+-- who knows of no block has taken none out
+plain_own : {T : Type 0} (u : SlotView T) (n : World T) (j : ℕ) → IsPlain u → IsItsOwn n j u
+plain_own (Defers t c) n j plain = absurd plain
+plain_own _ n j plain = tt
 
 module _ {T : Type 0} (defers : T → Option ℕ) (fixed : Fixed) (s : State T (SlotView T) (World T)) (id : ℕ) (v : SlotView T) (h : Holds defers fixed s)
     (at_id : view_of s id ≡ Some v) where
@@ -54,7 +60,7 @@ module _ {T : Type 0} (defers : T → Option ℕ) (fixed : Fixed) (s : State T (
     went : Moved defers fixed s id h.life.began u m n
     went =
         stepped defers fixed s id v h at_id u m n g.step g.memory
-        (record { row = g.row; slot = used_like n (use_of u) g.used; short = g.short; known = g.known }) lone g.none g.bounded
+        (record { row = g.row; slot = used_like n (use_of u) g.used; short = g.short; known = g.known; its_own = plain_own u n id g.plain }) lone g.none g.bounded
 
   pub goes : (m : Mem T) (so : SlotView T → Type 0) → GoesTo defers fixed IsJustSo s.world id v m so → Leads defers fixed s m id so
   goes m so g = moved defers fixed s id v g.0 m g.1 so h at_id (went m g.0 g.1 g.2) g.3
@@ -73,5 +79,5 @@ module _ {T : Type 0} (defers : T → Option ℕ) (fixed : Fixed) (s : State T (
   begins so (u, n, request, g, is) =
       moved defers fixed s id v u s.memory n so h at_id
       (begun defers fixed s id v h at_id request u n g.happens g.memory g.log (λ j b x ne e q. g.hand b (λ k. ne (h.sole j id b x v e at_id q k))) g.none g.linked
-      g.rows g.uses (record { row = g.row; slot = used_like n (use_of u) g.used; short = g.short; known = g.known }) g.slot g.bounded g.hand g.handed)
+      g.rows g.uses (record { row = g.row; slot = used_like n (use_of u) g.used; short = g.short; known = g.known; its_own = plain_own u n id g.plain }) g.slot g.bounded g.hand g.handed)
       is

@@ -18,11 +18,13 @@ use Rattle.seize_acts.proofs.Given.SeizeAloneHistories.NotTaken.{IsHad, IsHeld, 
 use Rattle.seize_seats.specs.Seats.State.{State, view_of, after}
 use Rattle.seize_acts.specs.Bounds.Bounds.{HasCounted, HasTried, IsAloneOnSlot, Meanwhile}
 use Rattle.seize_views.specs.Views.Chains.{all_roots, IsChainRoot, HasLink, Chain}
-use Rattle.seize_views.specs.Views.Rows.{Leads, use_of, row_of, hand_of, had_in, settles_for, IsUsed, IsMade, IsInHand, IsKnown, RootsNameLinked, IsInSomeHand, Fits, Since, Came, IsBounded, Holds, Keeps}
+use Rattle.seize_views.specs.Views.Rows.{Leads, use_of, row_of, hand_of, had_in, settles_for, IsUsed, IsMade, IsInHand, IsHeldSo, IsItsOwn, IsKnown, RootsNameLinked, IsInSomeHand, Fits, Since, Came, IsBounded, Holds, Keeps}
 use Rattle.seize_views.specs.declared.view.SlotView.{SlotView}
-use Rattle.seize_views.specs.declared.view.SlotView.TheVariants.{Rests, Registers, Outside, Owes, Enters, Inside, Settles, Leaves, Left, Frees, Brings, Bears, Watches, Under, Joins, Busy}
+use Rattle.seize_views.specs.declared.view.SlotView.TheVariants.{Rests, Registers, Outside, Owes, Enters, Inside, Settles, Leaves, Left, Frees, Brings, Bears, Watches, Under, Joins, Defers, Busy}
 use Rattle.seize_views.specs.declared.view.Has.{Has}
 use Rattle.seize_views.specs.declared.view.Has.TheVariants.{Nothing, Made, Seen, Both, Cut, Walks}
+use Rattle.seize_views.specs.declared.view.Deferral.{Deferral}
+use Rattle.seize_views.specs.declared.view.Deferral.TheVariants.{Takes, Parts, Puts}
 use Rattle.seize_views.specs.declared.view.Why.TheVariants.{Retiring, Ending}
 use Rattle.seize_views.specs.declared.view.Becomes.TheVariants.{Idle, Active}
 use Rattle.seize_views.specs.declared.view.Fixed.{Fixed}
@@ -60,6 +62,9 @@ not_vacant {T} x t a e v = by x e
     by (Watches s b) f = cc f
     by (Joins block) f = cc f
     by (Under n s b) f = cc f
+    by (Defers s (Takes b c made)) f = let k = so (s, world.Inside 0) (t, a) f in cc (k, v)
+    by (Defers s (Parts b y c d)) f = let k = so (s, world.Inside 0) (t, a) f in cc (k, v)
+    by (Defers s (Puts b c)) f = let k = so (s, world.Inside 1) (t, a) f in cc (k, v)
     by (Busy None) f = cc f
     by (Busy (Some s)) f = let k = so (s, world.Inside 0) (t, a) f in cc (k, v)
 
@@ -103,12 +108,22 @@ module _ {T : Type 0} (defers : T → Option ℕ) where
   hand_users w (Under n t c) b is e = absurd (cc e)
   hand_users w (Joins None) b is e = absurd (cc e)
   hand_users w (Joins (Some made)) b is e = had_users w 0 (Made made.0 made.1) b is.0 e
+  hand_users w (Defers t (Takes a y None)) b is e = absurd (cc e)
+  hand_users w (Defers t (Takes a y (Some made))) b is e = had_users w t (Made made.0 made.1) b is.1 e
+  hand_users w (Defers t (Parts a y c x)) b is e = subst IsAside (sym (ap w.hand (sym (same_some c b e)) ∙ is.1.0.1)) (tt, λ r q. cc q)
+  hand_users w (Defers t (Puts a c)) b is e = absurd (cc e)
   hand_users w (Busy t) b is e = absurd is
 
 module _ {T : Type 0} where
   -- a seat is within the section of its slot
   pub inside_of : (w : World T) (t : ℕ) (has : Has T) → IsUsed w (use_of {T = T} (Inside t has)) → IsInside (w.uses t)
   inside_of w t has is = subst (λ (a : Use). IsInside a) (sym is) tt
+
+  -- as one is that defers a block
+  pub inside_so : (defers : T → Option ℕ) (w : World T) (j t : ℕ) (c : Deferral T) → Fits defers w j (Defers t c) → IsInside (w.uses t)
+  inside_so defers w j t (Takes a y made) f = subst (λ (a : Use). IsInside a) (sym f.slot) tt
+  inside_so defers w j t (Parts a y b x) f = subst (λ (a : Use). IsInside a) (sym f.slot) tt
+  inside_so defers w j t (Puts a c) f = subst (λ (a : Use). IsInside a) (sym f.slot) tt
 
 module _ {T : Type 0} where
   -- a block that its maker has no section holds
@@ -134,9 +149,11 @@ module _ {T : Type 0} (defers : T → Option ℕ) (fixed : Fixed) (s : State T (
       (j : ℕ) → j ≢ id → IsAloneOnSlot j s.world → IsAloneOnSlot j n
       → (events : List (Event T)) × Meanwhile defers (IsAloneOnSlot j) fixed.batch_size j events s.world n
 
-  -- another seat has the block in its hand, or the collector has it
+  -- another seat has the block in its hand, or the collector has it, or a section holds it that is open
   abbrev pub IsOthers : ℕ → Type 0
-  IsOthers b = ((j : ℕ) × (x : SlotView T) × (j ≢ id) × (view_of s j ≡ Some x) × (hand_of x ≡ Some b)) ⊎ (s.world.hand b ≡ world.Handed)
+  IsOthers b =
+      ((j : ℕ) × (x : SlotView T) × (j ≢ id) × (view_of s j ≡ Some x) × (hand_of x ≡ Some b)) ⊎ (s.world.hand b ≡ world.Handed)
+      ⊎ ((t : ℕ) × IsInside (s.world.uses t) × (holds t b s.world.log ≡ true))
 
   -- it is a block with a link that is not aside, or another seat has made it
   abbrev pub IsApart : ℕ → Type 0
@@ -188,19 +205,26 @@ module _ {T : Type 0} (defers : T → Option ℕ) (fixed : Fixed) (s : State T (
     came_now = since_both defers fixed (at_start defers (all_roots fixed)) s.world n h.came mo.since
 
     -- a block that another one has made is there, with its value
-    made : (b : ℕ) (x : T) → IsOthers b → n.hand b ≡ s.world.hand b → IsMade s.world b x → IsMade n b x
-    made b x its same is =
+    made_on : (b : ℕ) (x : T) → IsOthers b → n.hand b ≡ s.world.hand b → IsMade s.world b x → IsMade n b x
+    made_on b x its same is =
         let mine : n.hand b ≡ world.Making is.0.0 = same ∙ is.0.1 in
         let there = kept_there defers fixed.batch_size n (reached defers fixed n came_now) b (IsHad (of_users n.hand b (world.Making is.0.0) tt mine)) in
         ((is.0.0, mine), mo.values b its (subst IsSome (sym is.1) refl) there ∙ is.1)
 
+    -- as is one that an open section holds
+    held_so : (t a : ℕ) (y : T) → IsInside (s.world.uses t) → IsHeldSo s.world t a y → IsHeldSo n t a y
+    held_so t a y inside is =
+        let now = mo.held t a inside is.0 in
+        let there = kept_there defers fixed.batch_size n (reached defers fixed n came_now) a (IsHeld t now) in
+        (now, mo.values a (inr (inr (t, inside, is.0))) (subst IsSome (sym is.1) refl) there ∙ is.1)
+
     known : (j : ℕ) (x : SlotView T) → j ≢ id → view_of s j ≡ Some x → n.row j ≡ row_of x → Fits defers s.world j x → IsKnown defers n x
     known j (Inside t Nothing) ne e row f = tt
     known j (Inside t (Made b x)) ne e row f =
-        made b x (inl (j, Inside t (Made b x), ne, e, refl)) (mo.hands j b (Inside t (Made b x)) ne e refl) f.known
+        made_on b x (inl (j, Inside t (Made b x), ne, e, refl)) (mo.hands j b (Inside t (Made b x)) ne e refl) f.known
     known j (Inside t (Seen b)) ne e row f = mo.held t b (inside_of s.world t (Seen b) f.slot) f.known
     known j (Inside t (Both b x a)) ne e row f = (
-      made b x (inl (j, Inside t (Both b x a), ne, e, refl)) (mo.hands j b (Inside t (Both b x a)) ne e refl) f.known.0,
+      made_on b x (inl (j, Inside t (Both b x a), ne, e, refl)) (mo.hands j b (Inside t (Both b x a)) ne e refl) f.known.0,
       mo.held t a (inside_of s.world t (Both b x a) f.slot) f.known.1,
     )
     known j (Inside t (Cut b)) ne e row f = (f.known.0, mo.hands j b (Inside t (Cut b)) ne e refl ∙ f.known.1)
@@ -220,7 +244,7 @@ module _ {T : Type 0} (defers : T → Option ℕ) (fixed : Fixed) (s : State T (
         subst (λ (b : ℕ). IsSome (value_at n.memory b)) (sym f.known.1) (reclaiming_there defers c why n.memory may f.known.0) in
         let handed : s.world.hand seen.0 ≡ world.Handed =
         ap s.world.hand f.known.1 ∙ reclaiming_handed defers fixed.batch_size s.world (reached defers fixed s.world h.came) j c why f.row f.known.0 in
-        (f.known.0, f.known.1, mo.values seen.0 (inr handed) (subst IsSome (sym f.known.2) refl) some ∙ f.known.2)
+        (f.known.0, f.known.1, mo.values seen.0 (inr (inl handed)) (subst IsSome (sym f.known.2) refl) some ∙ f.known.2)
     known j Rests ne e row f = tt
     known j (Registers c) ne e row f = tt
     known j (Outside t) ne e row f = tt
@@ -229,16 +253,51 @@ module _ {T : Type 0} (defers : T → Option ℕ) (fixed : Fixed) (s : State T (
     known j (Leaves t size way) ne e row f = tt
     known j (Left t size way) ne e row f = tt
     known j (Frees t) ne e row f = tt
-    known j (Brings b x) ne e row f = made b x (inl (j, Brings b x, ne, e, refl)) (mo.hands j b (Brings b x) ne e refl) f.known
+    known j (Brings b x) ne e row f = made_on b x (inl (j, Brings b x, ne, e, refl)) (mo.hands j b (Brings b x) ne e refl) f.known
     known j (Bears b) ne e row f = (f.known.0, mo.hands j b (Bears b) ne e refl ∙ f.known.1)
     known j (Watches t b) ne e row f = tt
     known j (Under n t b) ne e row f = tt
     known j (Joins None) ne e row f = tt
     known j (Joins (Some (b, x, a))) ne e row f =
         let its : (k : ℕ) × (y : SlotView T) × (k ≢ id) × (view_of s k ≡ Some y) × (hand_of y ≡ Some b) = (j, Joins (Some (b, x, a)), ne, e, refl) in
-        let is = made b x (inl its) (mo.hands j b (Joins (Some (b, x, a))) ne e refl) f.known.0 in
+        let is = made_on b x (inl its) (mo.hands j b (Joins (Some (b, x, a))) ne e refl) f.known.0 in
         (is, links_kept s.world.memory n.memory b a (mo.links b (inr (its, f.known.0.0)) (subst IsSome (sym is.1) refl)) f.known.1, f.known.2)
+    known j (Defers t (Takes a y None)) ne e row f = (held_so t a y (inside_so defers s.world j t (Takes a y None) f) f.known.0, tt)
+    known j (Defers t (Takes a y (Some made))) ne e row f =
+        let v : SlotView T = Defers t (Takes a y (Some made)) in (
+          held_so t a y (inside_so defers s.world j t (Takes a y (Some made)) f) f.known.0,
+          made_on made.0 made.1 (inl (j, v, ne, e, refl)) (mo.hands j made.0 v ne e refl) f.known.1,
+        )
+    known j (Defers t (Parts a y b x)) ne e row f =
+        let v : SlotView T = Defers t (Parts a y b x) in let now = mo.hands j b v ne e refl ∙ f.known.1.0.1 in
+        let there = kept_there defers fixed.batch_size n (reached defers fixed n came_now) b (IsHad (of_users n.hand b (world.Parting f.known.1.0.0) tt now)) in (
+          held_so t a y (inside_so defers s.world j t (Parts a y b x) f) f.known.0,
+          ((f.known.1.0.0, now), mo.values b (inl (j, v, ne, e, refl)) (subst IsSome (sym f.known.1.1) refl) there ∙ f.known.1.1),
+        )
+    known j (Defers t (Puts a c)) ne e row f = mo.held t a (inside_so defers s.world j t (Puts a c) f) f.known
     known j (Busy t) ne e row f = f.known
+
+    -- what it has taken out is its own
+    own_on : (j : ℕ) (x : SlotView T) → j ≢ id → view_of s j ≡ Some x → IsItsOwn s.world j x → IsItsOwn n j x
+    own_on j (Defers t (Parts a y b x)) ne e own = mo.hands j b (Defers t (Parts a y b x)) ne e refl ∙ own
+    own_on j (Defers t (Takes a y made)) ne e own = tt
+    own_on j (Defers t (Puts a c)) ne e own = tt
+    own_on j Rests ne e own = tt
+    own_on j (Registers c) ne e own = tt
+    own_on j (Outside t) ne e own = tt
+    own_on j (Owes t b) ne e own = tt
+    own_on j (Enters t) ne e own = tt
+    own_on j (Inside t has) ne e own = tt
+    own_on j (Settles c why seen left) ne e own = tt
+    own_on j (Leaves t size way) ne e own = tt
+    own_on j (Left t size way) ne e own = tt
+    own_on j (Frees t) ne e own = tt
+    own_on j (Brings b x) ne e own = tt
+    own_on j (Bears b) ne e own = tt
+    own_on j (Watches t b) ne e own = tt
+    own_on j (Under m t b) ne e own = tt
+    own_on j (Joins block) ne e own = tt
+    own_on j (Busy t) ne e own = tt
 
     bound : (j : ℕ) (x : SlotView T) → j ≢ id → IsAloneOnSlot j n → IsBounded defers fixed s.world j x → IsBounded defers fixed n j x
     bound j (Settles c (Retiring way) seen left) ne after b =
@@ -261,6 +320,7 @@ module _ {T : Type 0} (defers : T → Option ℕ) (fixed : Fixed) (s : State T (
     bound j (Watches t d) ne after b = tt
     bound j (Under n t d) ne after b = tt
     bound j (Joins block) ne after b = tt
+    bound j (Defers t c) ne after b = tt
     bound j (Busy t) ne after b = tt
 
     pub moved : so u → Leads defers fixed s m id so
@@ -307,7 +367,7 @@ module _ {T : Type 0} (defers : T → Option ℕ) (fixed : Fixed) (s : State T (
         fit j x e (inr ne) =
             let f = h.seats j x (before j x ne e) in
             let row = mo.rows j ne ∙ f.row in
-            record { row = row; slot = mo.others j x ne (before j x ne e); short = f.short; known = known j x ne (before j x ne e) row f }
+            record { row = row; slot = mo.others j x ne (before j x ne e); short = f.short; known = known j x ne (before j x ne e) row f; its_own = own_on j x ne (before j x ne e) f.its_own }
 
         none : (j : ℕ) → slice_get (slice_set s.views id u) j ≡ None → (j ≡ id) ⊎ (j ≢ id) → n.row j ≡ world.Rests
         none j e (inl same) = let f = here j same in absurd (cc (e, f))

@@ -28,7 +28,7 @@ use Rattle.seize_views.specs.declared.view.Noted.{Noted}
 use Rattle.seize_views.specs.declared.view.Deed.{Deed}
 use Rattle.seize_views.specs.declared.view.Began.{Began}
 use Rattle.seize_views.specs.declared.view.SlotView.{SlotView}
-use Rattle.seize_views.specs.declared.view.SlotView.TheVariants.{Rests, Registers, Outside, Owes, Enters, Inside, Settles, Leaves, Left, Frees, Brings, Bears, Watches, Under, Joins, Busy}
+use Rattle.seize_views.specs.declared.view.SlotView.TheVariants.{Rests, Registers, Outside, Owes, Enters, Inside, Settles, Leaves, Left, Frees, Brings, Bears, Watches, Under, Joins, Defers, Busy}
 use Rattle.seize_views.specs.declared.view.Has.TheVariants.{Nothing, Made, Seen, Both, Cut, Walks}
 use Rattle.seize_views.specs.declared.view.Becomes.{Becomes}
 use Rattle.seize_views.specs.declared.view.Becomes.TheVariants.{Idle, Active}
@@ -163,6 +163,7 @@ handed fixed b (Bears c) p q takes is = absurd takes
 handed fixed b (Watches t c) p q takes is = absurd takes
 handed fixed b (Under n t c) p q takes is = absurd takes
 handed fixed b (Joins block) p q takes is = absurd takes
+handed fixed b (Defers t c) p q takes is = absurd takes
 handed fixed b (Busy t) p q takes is = absurd takes
 
 -- a settling begins where no section ends
@@ -193,6 +194,7 @@ settles_open fixed (Bears b) u way c to is = absurd to
 settles_open fixed (Watches t b) u way c to is = absurd to
 settles_open fixed (Under n t b) u way c to is = absurd to
 settles_open fixed (Joins block) u way c to is = absurd to
+settles_open fixed (Defers t d) u way c to is = absurd to
 settles_open fixed (Busy t) u way c to is = absurd to
 
 module _ (T : Type 0) (defers : T → Option ℕ) where

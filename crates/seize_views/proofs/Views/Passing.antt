@@ -67,7 +67,7 @@ module _ {T : Type 0} (defers : T → Option ℕ) (fixed : Fixed) where
   sees : (s : State T (SlotView T) (World T)) (id n t b r : ℕ) (h : Holds defers fixed s) (at : view_of s id ≡ Some (Under n t b)) (out : Out T) (m : Mem T)
       → Took s.memory (Load (Root r)) out m → Leads defers fixed s m id (told defers (Under n t b) (Load (Root r)) out)
   sees s id n t b r h at (Found word) m took =
-      aside_on defers fixed s id (Under n t b) (Under n t (block_in word)) h at refl refl refl tt refl refl tt tt m took.1
+      aside_on defers fixed s id (Under n t b) (Under n t (block_in word)) h at refl refl refl tt refl refl tt tt tt m took.1
       (told defers (Under n t b) (Load (Root r)) (Found word)) refl
   sees s id n t b r h at Stored m took = absurd took.0
   sees s id n t b r h at (Exchanged x) m took = absurd took.0
@@ -96,7 +96,7 @@ module _ {T : Type 0} (defers : T → Option ℕ) (fixed : Fixed) where
         roots = marked_named defers fixed s id v h at r bits word m small took;
         rooted = rooted_still defers fixed s id v h at r (bit_or word bits) word m over;
         passes = over.passes;
-      }) (λ c. marked_found defers fixed s id v h at r bits word m small took None c (λ e. absurd (cc e))) refl tt tt (told defers v (Or (Root r) bits) (Found word)) refl
+      }) (λ c. marked_found defers fixed s id v h at r bits word m small took None c (λ e. absurd (cc e))) refl tt tt tt (told defers v (Or (Root r) bits) (Found word)) refl
   marks s id n t b r bits plain small h at Stored m took = absurd took.0
   marks s id n t b r bits plain small h at (Exchanged x) m took = absurd took.0
   marks s id n t b r bits plain small h at (OutMade x) m took = absurd took.0
@@ -187,7 +187,7 @@ module _ {T : Type 0} (defers : T → Option ℕ) (fixed : Fixed) where
       → i ≢ j → Goes N NotedKeeps s s.memory i (λ w. (w.knows ≡ Under j t 0) × SameNotes v w)
   begins i j t v u rests is_open s h at_i at_j ne =
       let at = seen_at defers fixed s i v at_i ∙ ap Some rests in
-      let g = aside_on defers fixed (as_known s) i Rests (Under j t 0) h.0 at refl refl refl tt refl refl tt tt s.memory refl (λ x. x ≡ Under j t 0) refl in
+      let g = aside_on defers fixed (as_known s) i Rests (Under j t 0) h.0 at refl refl refl tt refl refl tt tt tt s.memory refl (λ x. x ≡ Under j t 0) refl in
       noted_so s i v (Under j t 0)
       (goes defers fixed s h s.memory i v at_i (λ x. x ≡ Under j t 0) v.did v.began (λ x is k. ap (is_watching k) is ∙ sym (ap (is_watching k) rests))
       (λ x is. inr (inl (ap open_at rests))) g (λ x c e some. absurd (not_watching g.0 j t 0 x c g.5 e))
@@ -203,7 +203,7 @@ module _ {T : Type 0} (defers : T → Option ℕ) (fixed : Fixed) where
       → Goes N NotedKeeps s s.memory i (λ w. (w.knows ≡ Rests) × SameNotes v w)
   ends i n t b v is s h at_i =
       let at = seen_at defers fixed s i v at_i ∙ ap Some is in
-      let g = aside_on defers fixed (as_known s) i (Under n t b) Rests h.0 at refl refl refl tt refl refl tt tt s.memory refl (λ x. x ≡ Rests) refl in
+      let g = aside_on defers fixed (as_known s) i (Under n t b) Rests h.0 at refl refl refl tt refl refl tt tt tt s.memory refl (λ x. x ≡ Rests) refl in
       noted_so s i v Rests
       (goes defers fixed s h s.memory i v at_i (λ x. x ≡ Rests) v.did v.began (λ x e k. ap (is_watching k) e ∙ sym (ap (is_watching k) is))
       (λ x e. inr (inl (ap open_at is))) g (λ x c e some. absurd (let f : Rests ≡ Watches x c = sym g.5 ∙ e in cc f))

@@ -1,25 +1,22 @@
 -- A block is put at a root, whatever is there or in place of a word, seen there, marked there, and taken from there.
 use Rattle.std.specs.Prelude.{◌≢◌, ◌<◌, ◌^◌, ◌/◌, ◌==◌, Option, Some, None, Ok, Err, length, bit_or, if◌then◌else◌}
-use Rattle.std.proofs.Common.{◌≡◌, ℕ, List, [], Bool, true, false, cond, ◌⊎◌, inl, inr, refl, sym, subst, ap, ◌∙◌, arith}
-use Rattle.std.proofs.lemmas.Bool.{cases_eq, eq-eqb, ne_eqb}
+use Rattle.std.proofs.Common.{◌≡◌, ℕ, List, [], Bool, true, false, ◌⊎◌, inl, inr, refl, sym, subst, ap, ◌∙◌, arith}
+use Rattle.std.proofs.lemmas.Bool.{eq-eqb}
 use Rattle.std.proofs.lemmas.Nat.{or_shr}
 use Rattle.std.specs.Int.Bits.{or_zero_r}
 use Rattle.seize_words.specs.OneMemory.Mem.{Mem, Took, word_at}
 use Rattle.seize_words.specs.OneMemory.Word.{block_in}
 use Rattle.seize_words.specs.OneMemory.Op.{Out, Load, Swap, Or, Exchange, Found, Stored, Exchanged, Made as OutMade, Taken, Roomed}
 use Rattle.seize_words.specs.declared.at.At.TheVariants.{Root}
-use Rattle.seize.specs.Law.{Effect, Linked, holds, is_over, is_open, reachable, is_somewhere}
-use Rattle.seize.specs.World.{World, Use, Hand, Links, IsInside, with_at, with_hand, with_effect}
+use Rattle.seize.specs.Law.{Effect, holds, is_open, reachable, is_somewhere}
+use Rattle.seize.specs.World.{World, Use, Hand, IsInside}
 use Rattle.seize.specs.World as world
 use Rattle.seize_acts.proofs.Given.SeizeMovesState.Ghost.{Life, IsLinked, emptied, place_of}
 use Rattle.seize_acts.proofs.Given.SeizeRulePoints.Aside.{HandFits}
-use Rattle.seize_acts.proofs.Given.SeizeMovesState.Held.{held_on}
 use Rattle.seize_acts.proofs.Given.SeizeMovesState.Logs.{reached_held}
-use Rattle.seize_acts.proofs.Given.SeizeRuleRows.Others.{with_here, with_other}
 use Rattle.seize_acts.proofs.Given.SeizeRuleRows.Teams.{UseFits}
 use Rattle.seize_acts.proofs.Given.SeizeAloneHistories.Reached.{Reached}
 use Rattle.seize_seats.specs.Seats.State.{State, view_of}
-use Rattle.seize_views.specs.Views.Chains.{Chain}
 use Rattle.seize_views.specs.Views.Rows.{Leads, TurnsTo, had_in, hand_of, IsMade, IsInHand, RootsNameLinked, Holds}
 use Rattle.seize_views.specs.Views.Told.{seen_in, cut_in, made_beside, alone_with, told}
 use Rattle.seize_views.specs.Views.Promises.{MadeAreLinked, MadeAreExchanged, OwnAreLinked, OwnAreExchanged, RootsAreSeen, RootsAreMarked, RootsAreCleared, RootsAreWithdrawn}
@@ -28,13 +25,11 @@ use Rattle.seize_views.specs.declared.view.SlotView.TheVariants.{Outside, Owes, 
 use Rattle.seize_views.specs.declared.view.Has.{Has}
 use Rattle.seize_views.specs.declared.view.Has.TheVariants.{Nothing, Made, Seen, Both, Cut, Walks}
 use Rattle.seize_views.specs.declared.view.Fixed.{Fixed}
-use Rattle.seize_views.proofs.Views.Came.{reached, since_then}
-use Rattle.seize_views.proofs.Views.Chains.{chain_kept, linked_beside, linked_back, not_chain}
-use Rattle.seize_views.proofs.Views.Found.{found_on, linked_some}
-use Rattle.seize_views.proofs.Views.Moved.{inside_of, making_not_held}
-use Rattle.seize_views.proofs.Views.Users.{use_making, making_use, same_use, beside, passes_then, Carries, within, alone_carries, users, users_outside, users_owe}
-use Rattle.seize_views.proofs.Views.Written.{Wrote, Cuts, wrote, rooted_still, roots_now, written, links_stay, chains_still, FoundIn, found_but, fresh, root_can, unlinked, clears}
-use Rattle.seize_words.proofs.General.{same_some}
+use Rattle.seize_views.proofs.Views.Came.{reached}
+use Rattle.seize_views.proofs.Views.Linking.{links}
+use Rattle.seize_views.proofs.Views.Moved.{inside_of}
+use Rattle.seize_views.proofs.Views.Users.{Carries, within, alone_carries, users, stands, users_outside, users_owe}
+use Rattle.seize_views.proofs.Views.Written.{Wrote, Cuts, wrote, rooted_still, roots_now, written, links_stay, chains_still, FoundIn, found_but, root_can, GoesOut, unlinked, clears}
 
 -- bits of the tag leave the block of a word as it is
 marked_block : (word bits : ℕ) → bits < 2 ^ 11 → block_in (bit_or word bits) ≡ block_in word
@@ -133,33 +128,12 @@ module _ {T : Type 0} (defers : T → Option ℕ) (fixed : Fixed) (s : State T (
   abbrev w : World T
   w = s.world
 
-  r : Reached defers fixed.batch_size w
-  r = reached defers fixed w h.came
-
-  abbrev IsFoundIn : Mem T → Option ℕ → ℕ → Hand → Type 0
-  IsFoundIn m o b k = FoundIn defers fixed s id (place had) h at m o b k
-
   -- what is known of blocks changes, and nothing else
   pub looks : (m : Mem T) (has : Has T) → m ≡ s.memory → IsInHand defers w t has → had_in has ≡ had_in had → (so : SlotView T → Type 0) → so (place has)
       → Leads defers fixed s m id so
   looks m has same known still so is =
-      users defers fixed s id t h place carries had at m w has (record {
-        since = ([], refl);
-        memory = same ∙ h.memory;
-        row = refl;
-        uses = refl;
-        in_hand = known;
-        hands = λ j c x ne e q. refl;
-        sole = λ j c x ne e q p. ne (h.sole j id c x (place had) e at q (carries.hand had ∙ sym still ∙ p));
-        values = λ c its some some2. refl;
-        links = λ b apart some. (refl, refl);
-        held = λ b c held. held;
-        over = λ a c held. refl;
-        roots = subst (λ (x : Mem T). RootsNameLinked x w.hand) (sym same) h.roots;
-        rooted = ap (λ (x : Mem T). length x.roots) same ∙ h.rooted;
-        chains = λ r is. subst (λ (x : Mem T). Chain defers x w.hand r) (sym same) (h.chains r is);
-        passes = λ j ne was now. ([], refl);
-      }) (λ b. found_on defers fixed s id (place had) h at (had_in has) m (ap (λ (x : Mem T). x.roots) same) b (λ mine. still ∙ sym (carries.hand had) ∙ mine)) so is
+      stands defers fixed s id t (place had) (place has) h at (carries.rests had) (carries.rests has) (carries.stays has had) (carries.short has) m same has known
+      (carries.hand had ∙ sym still) (carries.hand has) (carries.known defers w has known) (carries.own w id has) (carries.bounded defers fixed w id has) so is
 
   -- the block that is taken from a root is in the seat's hand
   cuts : (a old : ℕ) (m : Mem T) (so : SlotView T → Type 0) → so (place (cut_in old)) → Cuts defers fixed s id h.life.began t m old so
@@ -171,59 +145,8 @@ module _ {T : Type 0} (defers : T → Option ℕ) (fixed : Fixed) (s : State T (
       at_view : (y : Bool) → (block_in old == 0) ≡ y → so (place (if y then Nothing else Cut (block_in old)))
       at_view y e = subst (λ (z : Bool). so (place (if z then Nothing else Cut (block_in old)))) e is
 
-  -- the block that was made is put at a root, by a word that links to it
-  links : (b a i word : ℕ) → block_in word ≡ b → w.hand b ≡ world.Making i → had_in had ≡ Some b → (old : ℕ) (m : Mem T)
-      → a < fixed.roots → Wrote defers fixed s id a word old m → (so : SlotView T → Type 0) → so (place (cut_in old)) → Leads defers fixed s m id so
-  links b a i word names mine had_it old m plain wrote so tells =
-      let n : World T = with_effect (with_hand (record w { memory = m }) b (world.InUse a)) (Linked b a) in
-      let other : (c : ℕ) (k : Hand) → (k ≡ world.Making i → ⊥) → w.hand c ≡ k → n.hand c ≡ k =
-      (λ c k ne f. beside w b c (world.InUse a) k (λ e. ne (e ∙ mine)) f) in
-      let was = h.roots a old wrote.there in
-      let named : RootsNameLinked m n.hand =
-      roots_now defers fixed s id (place had) h at a word old m n.hand wrote (inr (ap n.hand names ∙ with_here w.hand b (world.InUse a)))
-      (λ c e ne f. other c (world.InUse e) (use_making e i) f) in
-      let is_new : (block_in word ≡ 0) ⊎ (block_in word ≢ block_in old) = new_block old mine was (cases_eq b 0) in
-      unlinked defers fixed s id (place had) h at t a old m n so plain (cuts a old m so tells) (record {
-        since = since_then defers fixed w (record w { memory = m }) n (Links id b a) wrote.since ((i, mine), refl);
-        memory = refl;
-        row = refl;
-        uses = refl;
-        in_hand = tt;
-        hands = λ j c x ne e q. with_other w.hand b c (world.InUse a)
-            (λ k. ne (h.sole j id b x (place had) e at (q ∙ ap Some k) (carries.hand had ∙ had_it)));
-        sole = λ j c x ne e q p. cc p;
-        values = λ c its some some2. wrote.values c;
-        links = links_stay defers fixed s id (place had) h at a word old m wrote;
-        held = λ e c held. held_on e c (Linked b a) w.log tt held;
-        over = λ e c held. ap (λ (y : Bool). cond y false (is_over c w.log)) (ne_eqb c b (making_not_held defers fixed.batch_size w r i e b c held mine));
-        roots = named;
-        rooted = rooted_still defers fixed s id (place had) h at a word old m wrote;
-        chains = λ c is. chain_kept defers m m w.hand n.hand c refl
-            (λ e k. linked_beside w.hand b (world.InUse a) c e (λ its. use_making c i (sym its ∙ mine)) k)
-            (λ e k. linked_back w.hand b (world.InUse a) c e (λ its. not_chain fixed a c plain is (same_use c a (sym its))) k) (λ e k has. (refl, refl))
-            (chains_still defers fixed s id (place had) h at a word old m plain wrote c is);
-        passes = passes_then defers fixed s id t (record w { memory = m }) n (Links id b a) tt (λ j. tt) wrote.passes ((i, mine), refl);
-      }) named (λ c. found_then c (cases_eq c b)) (λ c f. other c (world.InUse a) (use_making a i) f) was (fresh defers fixed s id (place had) h at a word old m wrote was is_new)
-    where
-      -- it is named there, and each other one is found but the one that was there
-      found_then : (c : ℕ) → (c ≡ b) ⊎ (c ≢ b) → IsFoundIn m None c (with_at w.hand b (world.InUse a) c) ⊎ ((block_in old ≡ c) × (c ≢ 0))
-      found_then c (inl is) =
-          inl (subst (λ (k : Hand). IsFoundIn m None c k) (sym (ap (with_at w.hand b (world.InUse a)) is ∙ with_here w.hand b (world.InUse a)))
-          (inl (word, written defers fixed s id (place had) h at a word old m wrote, names ∙ sym is)))
-      found_then c (inr ne) =
-          but_old (found_but defers fixed s id (place had) h at a word old m wrote None c
-          (λ e. absurd (ne (same_some c b (sym e ∙ carries.hand had ∙ had_it)))))
-        where
-          but_old : IsFoundIn m None c (w.hand c) ⊎ ((block_in old ≡ c) × (w.hand c ≡ world.InUse a))
-              → IsFoundIn m None c (with_at w.hand b (world.InUse a) c) ⊎ ((block_in old ≡ c) × (c ≢ 0))
-          but_old (inl f) = inl (subst (λ (k : Hand). IsFoundIn m None c k) (sym (with_other w.hand b c (world.InUse a) ne)) f)
-          but_old (inr is) = inr (is.0, linked_some defers fixed s id (place had) h at c a is.1)
-
-      new_block : (old : ℕ) → w.hand b ≡ world.Making i → (block_in old ≡ 0) ⊎ (w.hand (block_in old) ≡ world.InUse a) → (b ≡ 0) ⊎ (b ≢ 0)
-          → (block_in word ≡ 0) ⊎ (block_in word ≢ block_in old)
-      new_block old mine was (inl z) = inl (names ∙ z)
-      new_block old mine (inl none) (inr nz) = inr (λ e. nz (sym names ∙ e ∙ none))
-      new_block old mine (inr linked) (inr nz) = inr (λ e. making_use i a (sym mine ∙ ap w.hand (sym names ∙ e) ∙ linked))
+  out_of : (a old : ℕ) (m : Mem T) → a < fixed.roots → (so : SlotView T → Type 0) → so (place (cut_in old)) → GoesOut defers fixed s id (place had) h at t a old m so
+  out_of a old m plain so is = unlinked defers fixed s id (place had) h at t a old m so plain (cuts a old m so is)
 
   -- the block that was made is put at a root in place of this word, or what is there is seen
   exchanges : (b : ℕ) (x : T) (a old link : ℕ) → a < fixed.roots → block_in link ≡ b → IsMade w b x → had_in had ≡ Some b → (so : Out T → SlotView T → Type 0)
@@ -233,9 +156,9 @@ module _ {T : Type 0} (defers : T → Option ℕ) (fixed : Fixed) (s : State T (
       → (out : Out T) (m : Mem T) → Took s.memory (Exchange (Root a) old link) out m → Leads defers fixed s m id (so out)
   exchanges b x a old link plain names made had_it so cut other (Exchanged (Ok word)) m took =
       subst (λ (k : ℕ). Leads defers fixed s m id (so (Exchanged (Ok k)))) (sym took.0.1)
-      (links b a made.0.0 link names made.0.1 had_it old m plain
+      (links defers fixed s id t (place had) h at b a made.0.0 link names made.0.1 (carries.hand had ∙ had_it) old m plain
       (wrote defers fixed s id (place had) h at a link old m (Exchange (Root a) old link) (Exchanged (Ok word)) tt took (took.0.0 ∙ ap Some took.0.1) took.1)
-      (so (Exchanged (Ok old))) cut)
+      (so (Exchanged (Ok old))) (out_of a old m plain (so (Exchanged (Ok old))) cut))
   exchanges b x a old link plain names made had_it so cut other (Exchanged (Err word)) m took =
       let k = other word took.0.0 took.0.1 in looks m k.0 took.1 k.1 k.2 (so (Exchanged (Err word))) k.3
   exchanges b x a old link plain names made had_it so cut other (Found y) m took = absurd took.0
@@ -249,8 +172,9 @@ module _ {T : Type 0} (defers : T → Option ℕ) (fixed : Fixed) (s : State T (
       → ((old : ℕ) → so (Found old) (place (cut_in old))) → (out : Out T) (m : Mem T) → Took s.memory (Swap (Root a) link) out m
       → Leads defers fixed s m id (so out)
   swaps b x a link plain names made had_it so tells (Found old) m took =
-      links b a made.0.0 link names made.0.1 had_it old m plain
-      (wrote defers fixed s id (place had) h at a link old m (Swap (Root a) link) (Found old) tt took took.0 took.1) (so (Found old)) (tells old)
+      links defers fixed s id t (place had) h at b a made.0.0 link names made.0.1 (carries.hand had ∙ had_it) old m plain
+      (wrote defers fixed s id (place had) h at a link old m (Swap (Root a) link) (Found old) tt took took.0 took.1)
+      (so (Found old)) (out_of a old m plain (so (Found old)) (tells old))
   swaps b x a link plain names made had_it so tells Stored m took = absurd took.0
   swaps b x a link plain names made had_it so tells (Exchanged y) m took = absurd took.0
   swaps b x a link plain names made had_it so tells (OutMade y) m took = absurd took.0
@@ -419,10 +343,10 @@ module _ (T : Type 0) (defers : T → Option ℕ) where
       by : (out : Out T) (m : Mem T) → Took s.memory (Swap (Root a) 0) out m
           → Leads defers fixed s m id (told defers (Inside t Nothing) (Swap (Root a) 0) out)
       by (Found old) m took =
+          let so = told defers (Inside t Nothing) (Swap (Root a) 0) (Found old) in
           clears defers fixed s id (Inside t Nothing) h at t a old m lt refl
           (wrote defers fixed s id (Inside t Nothing) h at a 0 old m (Swap (Root a) 0) (Found old) tt took took.0 took.1)
-          (told defers (Inside t Nothing) (Swap (Root a) 0) (Found old))
-          (cuts defers fixed s id t (Inside t) (within t) Nothing h at a old m (told defers (Inside t Nothing) (Swap (Root a) 0) (Found old)) (cut_in old, refl, refl))
+          so (out_of defers fixed s id t (Inside t) (within t) Nothing h at a old m lt so (cut_in old, refl, refl))
       by Stored m took = absurd took.0
       by (Exchanged x) m took = absurd took.0
       by (OutMade x) m took = absurd took.0
@@ -448,7 +372,8 @@ module _ (T : Type 0) (defers : T → Option ℕ) where
       by (Found old) m took =
           clears defers fixed s id (Outside t) h at t a old m lt refl
           (wrote defers fixed s id (Outside t) h at a 0 old m (Swap (Root a) 0) (Found old) tt took took.0 took.1)
-          (told defers (Outside t) (Swap (Root a) 0) (Found old)) (owes old m)
+          (told defers (Outside t) (Swap (Root a) 0) (Found old))
+          (unlinked defers fixed s id (Outside t) h at t a old m (told defers (Outside t) (Swap (Root a) 0) (Found old)) lt (owes old m))
       by Stored m took = absurd took.0
       by (Exchanged x) m took = absurd took.0
       by (OutMade x) m took = absurd took.0

@@ -48,7 +48,7 @@ use Rattle.seize_words.proofs.General.{same_some}
 
 module _ {T R : Type 0} where
   -- what may be done, and is an operation, may be made, and comes to an end
-  may_op : (m : Mem T) (plan : Plan T R) (op : Op T) → op_in plan ≡ Some op → May Can Took value_at m plan
+  pub may_op : (m : Mem T) (plan : Plan T R) (op : Op T) → op_in plan ≡ Some op → May Can Took value_at m plan
       → Can m op
       × ((out : Out T) (n : Mem T) → Took m op out n → (end : R) × Steps Took value_at m plan n end × Ends (value_at n) (rest_of plan out) end)
   may_op m (Turn rest) op e may = absurd (cc e)

@@ -15,7 +15,7 @@ use Rattle.seize_acts.proofs.Given.SeizeRuleWorld.Values.{own_op_value}
 use Rattle.seize_acts.proofs.Given.SeizeAloneHistories.Reached.{Reached}
 use Rattle.seize_seats.specs.Seats.State.{State, view_of}
 use Rattle.seize_views.specs.Views.Chains.{IsChainRoot, LinksTo, HasLink, Chain}
-use Rattle.seize_views.specs.Views.Rows.{Leads, IsMade, RootsNameLinked, Holds}
+use Rattle.seize_views.specs.Views.Rows.{Leads, IsMade, Holds}
 use Rattle.seize_views.specs.Views.Stacking.{JoiningAreMade, LinksAreWritten, JoiningAreTaken, JoiningArePut, JoiningAreShown}
 use Rattle.seize_views.specs.Views.Told.{told}
 use Rattle.seize_views.specs.declared.view.TheConstants.{LINK}
@@ -31,7 +31,7 @@ use Rattle.seize_views.proofs.Views.Lists.{elsewhere}
 use Rattle.seize_views.proofs.Views.Links.{made_link, stored_beside, stored_link}
 use Rattle.seize_views.proofs.Views.Moved.{LinksStay, chains_stay, making_not_held}
 use Rattle.seize_views.proofs.Views.Steps.{roots_kept, world_roots, world_rooted}
-use Rattle.seize_views.proofs.Views.Users.{use_making, same_use, beside, world_took, passes_one, passes_then, users_on}
+use Rattle.seize_views.proofs.Views.Users.{use_making, same_use, beside, world_took, passes_one, passes_then, users_on, stands}
 use Rattle.seize_views.proofs.Views.Written.{Wrote, wrote, rooted_still, roots_now, written, links_stay, any_root_can, FoundIn, found_but}
 use Rattle.seize_words.proofs.General.{same_some}
 
@@ -78,10 +78,10 @@ module _ {T : Type 0} (defers : T → Option ℕ) (fixed : Fixed) (s : State T (
       (told defers (Joins None) (Make value words))
       (λ b m2 lt here u found.
       users_on defers fixed s id 0 (Joins None) (Joins (Some (b, value, 0))) h at refl refl refl tt m2 (world.made_by defers w id m2 (OutMade (Ok b))) (Made b value) u found refl
-      (u.in_hand, (0, made_link w.memory m2 b value words here.0.0 here.1 long, refl), own) tt (told defers (Joins None) (Make value words) (OutMade (Ok b)))
+      (u.in_hand, (0, made_link w.memory m2 b value words here.0.0 here.1 long, refl), own) tt tt (told defers (Joins None) (Make value words) (OutMade (Ok b)))
       (Some (b, value, 0), (lt, refl), refl))
       (λ back m2 same u found.
-      users_on defers fixed s id 0 (Joins None) Rests h at refl refl refl tt m2 (world.made_by defers w id m2 (OutMade (Err back))) Nothing u found refl tt tt
+      users_on defers fixed s id 0 (Joins None) Rests h at refl refl refl tt m2 (world.made_by defers w id m2 (OutMade (Err back))) Nothing u found refl tt tt tt
       (told defers (Joins None) (Make value words) (OutMade (Err back))) (None, (same, refl), refl)) out m took
 
   module _ (b : ℕ) (x : T) (a : ℕ) (at : view_of s id ≡ Some (Joins (Some (b, x, a)))) where
@@ -103,7 +103,7 @@ module _ {T : Type 0} (defers : T → Option ℕ) (fixed : Fixed) (s : State T (
         takes_with defers fixed s id 0 v (Made b x) refl h at made b x made refl Nothing refl (λ n held. tt) (told defers v (Take b))
         (λ value m2 same u found.
         users_on defers fixed s id 0 v Rests h at refl refl refl tt m2
-        (with_effect (with_hand (record w { memory = m2 }) b world.NoBlock) (Dropped b)) Nothing u found refl tt tt (told defers v (Take b) (Taken value)) (None, (same, refl), refl))
+        (with_effect (with_hand (record w { memory = m2 }) b world.NoBlock) (Dropped b)) Nothing u found refl tt tt tt (told defers v (Take b) (Taken value)) (None, (same, refl), refl))
         out m took
 
     -- it writes its link
@@ -140,7 +140,7 @@ module _ {T : Type 0} (defers : T → Option ℕ) (fixed : Fixed) (s : State T (
           chains = chains_stay defers fixed s id h m n refl since links (root_words defers fixed s id 0 v (Made b x) refl h at made m roots) (λ c e is f. f) (λ c e is f. f);
           passes = passes_one defers fixed s id 0 (Operates op) n (λ j. tt) happens;
         }) (λ c. found_on defers fixed s id v h at (Some b) m (roots ∙ sym (ap (λ (y : Mem T). y.roots) h.memory)) c (λ mine. mine)) refl
-        ((made.0, value b ∙ made.1), (word, stored_link w.memory m b word some here.1, refl), (h.seats id v at).known.2) tt (told defers v op Stored) (Some (b, x, block_in word), refl, refl)
+        ((made.0, value b ∙ made.1), (word, stored_link w.memory m b word some here.1, refl), (h.seats id v at).known.2) tt tt (told defers v op Stored) (Some (b, x, block_in word), refl, refl)
     writes word (Found y) m took = absurd took.0
     writes word (Exchanged y) m took = absurd took.0
     writes word (OutMade y) m took = absurd took.0
@@ -150,23 +150,7 @@ module _ {T : Type 0} (defers : T → Option ℕ) (fixed : Fixed) (s : State T (
     -- it has it as it had it
     keeps : (m : Mem T) → m ≡ s.memory → (so : SlotView T → Type 0) → so v → Leads defers fixed s m id so
     keeps m same so is =
-        users_on defers fixed s id 0 v v h at refl refl refl tt m w (Made b x) (record {
-          since = ([], refl);
-          memory = same ∙ h.memory;
-          row = refl;
-          uses = refl;
-          in_hand = made;
-          hands = λ j c y ne e q. refl;
-          sole = λ j c y ne e q p. ne (h.sole j id c y v e at q p);
-          values = λ c its some some2. refl;
-          links = λ c apart some. (refl, refl);
-          held = λ e c held. held;
-          over = λ e c held. refl;
-          roots = subst (λ (y : Mem T). RootsNameLinked y w.hand) (sym same) h.roots;
-          rooted = ap (λ (y : Mem T). length y.roots) same ∙ h.rooted;
-          chains = λ e is. subst (λ (y : Mem T). Chain defers y w.hand e) (sym same) (h.chains e is);
-          passes = λ j ne was now. ([], refl);
-        }) (λ c. found_on defers fixed s id v h at (Some b) m (ap (λ (y : Mem T). y.roots) same) c (λ mine. mine)) refl (h.seats id v at).known tt so is
+        stands defers fixed s id 0 v v h at refl refl refl tt m same (Made b x) made refl refl (h.seats id v at).known tt tt so is
 
     -- it puts it at the root of a chain, above the block that was the first one
     puts : (r old word : ℕ) → block_in word ≡ b → block_in old ≡ a → IsChainRoot fixed r → (m : Mem T) → Wrote defers fixed s id r word old m → (so : SlotView T → Type 0)
@@ -190,7 +174,7 @@ module _ {T : Type 0} (defers : T → Option ℕ) (fixed : Fixed) (s : State T (
           rooted = rooted_still defers fixed s id v h at r word old m wrote;
           chains = λ e its. chains e its (cases_eq e r);
           passes = passes_then defers fixed s id 0 (record w { memory = m }) n (Links id b r) tt (λ j. tt) wrote.passes (made.0, refl);
-        }) (λ c. found c (cases_eq c b)) refl tt tt so tells
+        }) (λ c. found c (cases_eq c b)) refl tt tt tt so tells
       where
         n : World T
         n = with_effect (with_hand (record w { memory = m }) b (world.InUse r)) (Linked b r)

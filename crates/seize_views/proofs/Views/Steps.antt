@@ -24,7 +24,8 @@ use Rattle.seize_views.specs.Views.Chains.{all_roots, IsChainRoot}
 use Rattle.seize_views.specs.declared.view.TheConstants.{LINK}
 use Rattle.seize_views.specs.Views.Rows.{row_of, use_of, hand_of, used_for, IsSeeking, IsShort, IsUsed, RootsNameLinked, IsFound, Fits, IsBounded, Holds}
 use Rattle.seize_views.specs.declared.view.SlotView.{SlotView}
-use Rattle.seize_views.specs.declared.view.SlotView.TheVariants.{Rests, Registers, Outside, Owes, Enters, Inside, Settles, Leaves, Left, Frees, Brings, Bears, Watches, Under, Joins, Busy}
+use Rattle.seize_views.specs.declared.view.SlotView.TheVariants.{Rests, Registers, Outside, Owes, Enters, Inside, Settles, Leaves, Left, Frees, Brings, Bears, Watches, Under, Joins, Defers, Busy}
+use Rattle.seize_views.specs.declared.view.Deferral.TheVariants.{Takes, Parts, Puts}
 use Rattle.seize_views.specs.declared.view.Why.TheVariants.{Retiring, Ending}
 use Rattle.seize_views.specs.declared.view.Fixed.{Fixed}
 use Rattle.seize_views.proofs.Views.Came.{of_users, reached, since_one}
@@ -59,6 +60,9 @@ works_on_own (Bears b) short t e = absurd (omega (arith, e))
 works_on_own (Watches s b) short t e = absurd (omega (arith, e))
 works_on_own (Under n s b) short t e = absurd (omega (arith, e))
 works_on_own (Joins block) short t e = absurd (omega (arith, e))
+works_on_own (Defers s (Takes a y made)) short t e = absurd (omega (arith, e))
+works_on_own (Defers s (Parts a y b x)) short t e = absurd (omega (arith, e))
+works_on_own (Defers s (Puts a c)) short t e = (world.Inside 1, ap (λ (k : ℕ). Some (k, world.Inside 1)) (omega (arith, e)))
 works_on_own (Busy s) short t e = absurd (omega (arith, e))
 
 -- who has a row under way has no block in its hand
@@ -78,6 +82,9 @@ no_hand defers id (Bears b) w n step = absurd step
 no_hand defers id (Watches t b) w n step = absurd step
 no_hand defers id (Under m t b) w n step = absurd step
 no_hand defers id (Joins block) w n step = absurd step
+no_hand defers id (Defers t (Takes a y made)) w n step = absurd step
+no_hand defers id (Defers t (Parts a y b x)) w n step = absurd step
+no_hand defers id (Defers t (Puts a c)) w n step = refl
 no_hand defers id (Busy t) w n step = absurd step
 
 module _ {T : Type 0} where

@@ -6,7 +6,7 @@ use Rattle.seize.specs.World.{World, Use}
 use Rattle.seize_views.specs.Views.Rows.{row_of, had_in}
 use Rattle.seize_views.specs.Views.Promises.{IsNext, IsFree}
 use Rattle.seize_views.specs.declared.view.SlotView.{SlotView}
-use Rattle.seize_views.specs.declared.view.SlotView.TheVariants.{Rests, Registers, Outside, Owes, Enters, Inside, Settles, Leaves, Left, Frees, Brings, Bears, Watches, Under, Joins, Busy}
+use Rattle.seize_views.specs.declared.view.SlotView.TheVariants.{Rests, Registers, Outside, Owes, Enters, Inside, Settles, Leaves, Left, Frees, Brings, Bears, Watches, Under, Joins, Defers, Busy}
 use Rattle.seize_views.specs.declared.view.Has.{Has}
 use Rattle.seize_views.specs.declared.view.Has.TheVariants.{Nothing, Made, Seen, Both, Cut, Walks}
 use Rattle.seize_views.specs.declared.view.Why.TheVariants.{Retiring, Ending}
@@ -67,4 +67,5 @@ module _ {T : Type 0} (defers : T → Option ℕ) (fixed : Fixed) (Is : Use → 
   turning (Watches t b) u is = absurd is
   turning (Under n t b) u is = absurd is
   turning (Joins block) u is = absurd is
+  turning (Defers t c) u is = absurd is
   turning (Busy t) u is = absurd is

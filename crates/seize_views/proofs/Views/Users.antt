@@ -11,7 +11,7 @@ use Rattle.seize_acts.proofs.Given.SeizeRuleRows.Others.{with_other, users_rows}
 use Rattle.seize_seats.specs.Seats.State.{State, view_of}
 use Rattle.seize_acts.specs.Bounds.Bounds.{IsOfOthers, IsAloneOnSlot}
 use Rattle.seize_views.specs.Views.Chains.{all_roots, IsChainRoot, HasLink, Chain}
-use Rattle.seize_views.specs.Views.Rows.{Leads, row_of, use_of, hand_of, had_in, IsShort, IsUsed, IsKnown, IsBounded, IsMade, IsInHand, RootsNameLinked, Fits, Since, Holds}
+use Rattle.seize_views.specs.Views.Rows.{Leads, row_of, use_of, hand_of, had_in, IsShort, IsUsed, IsKnown, IsItsOwn, IsBounded, IsMade, IsInHand, RootsNameLinked, Fits, Since, Holds}
 use Rattle.seize_views.specs.Views.Told.{alone_with}
 use Rattle.seize_views.specs.declared.view.SlotView.{SlotView}
 use Rattle.seize_views.specs.declared.view.SlotView.TheVariants.{Outside, Owes, Inside}
@@ -20,7 +20,7 @@ use Rattle.seize_views.specs.declared.view.Has.TheVariants.{Nothing, Made, Seen,
 use Rattle.seize_views.specs.declared.view.Fixed.{Fixed}
 use Rattle.seize_acts.proofs.Bounds.Bounds.Passing.{both}
 use Rattle.seize_views.proofs.Views.Chains.{same_where, all_below_kept, link_seen_kept}
-use Rattle.seize_views.proofs.Views.Found.{AreFound}
+use Rattle.seize_views.proofs.Views.Found.{AreFound, found_on}
 use Rattle.seize_views.proofs.Views.Moved.{StillHave, IsSole, Passes, IsOthers, LinksStay, moved, still_used}
 use Rattle.seize_views.proofs.Views.Steps.{alone}
 
@@ -101,9 +101,9 @@ module _ {T : Type 0} (defers : T → Option ℕ) (fixed : Fixed) (s : State T (
 
   -- the seat goes on from one view to another, of the same slot
   pub users_on : (m : Mem T) (n : World T) (has : Has T) → Users defers fixed s id t m n has → AreFound s id h.life.began fixed (had_in has) m n.hand
-      → hand_of x ≡ had_in has → IsKnown defers n x → IsBounded defers fixed n id x
+      → hand_of x ≡ had_in has → IsKnown defers n x → IsItsOwn n id x → IsBounded defers fixed n id x
       → (so : SlotView T → Type 0) → so x → Leads defers fixed s m id so
-  users_on m n has u found hand known bounded so is =
+  users_on m n has u found hand known own bounded so is =
       moved defers fixed s id v x m n so h at (record {
         since = u.since;
         memory = u.memory;
@@ -114,6 +114,7 @@ module _ {T : Type 0} (defers : T → Option ℕ) (fixed : Fixed) (s : State T (
               (still_used s.world n (use_of v) fit.slot (λ a b q. ap (λ (f : ℕ → Use). f a) u.uses));
           short = short;
           known = known;
+          its_own = own;
         };
         others = λ j y ne e. still_used s.world n (use_of y) (h.seats j y e).slot (λ a b q. ap (λ (f : ℕ → Use). f a) u.uses);
         alone = alone defers fixed s id v h at x (λ a b q. (b, sym same ∙ q));
@@ -131,6 +132,28 @@ module _ {T : Type 0} (defers : T → Option ℕ) (fixed : Fixed) (s : State T (
         bounded = bounded;
       }) is
 
+  -- or the memory and the world stay as they are
+  pub stands : (m : Mem T) → m ≡ s.memory → (has : Has T) → IsInHand defers s.world t has → hand_of v ≡ had_in has → hand_of x ≡ had_in has
+      → IsKnown defers s.world x → IsItsOwn s.world id x → IsBounded defers fixed s.world id x → (so : SlotView T → Type 0) → so x → Leads defers fixed s m id so
+  stands m same_memory has in_hand had hand known own bounded so is =
+      users_on m s.world has (record {
+        since = ([], refl);
+        memory = same_memory ∙ h.memory;
+        row = refl;
+        uses = refl;
+        in_hand = in_hand;
+        hands = λ j c y ne e q. refl;
+        sole = λ j c y ne e q p. ne (h.sole j id c y v e at q (had ∙ p));
+        values = λ c its some some2. refl;
+        links = λ c apart some. (refl, refl);
+        held = λ a c held. held;
+        over = λ a c held. refl;
+        roots = subst (λ (y : Mem T). RootsNameLinked y s.world.hand) (sym same_memory) h.roots;
+        rooted = ap (λ (y : Mem T). length y.roots) same_memory ∙ h.rooted;
+        chains = λ r is. subst (λ (y : Mem T). Chain defers y s.world.hand r) (sym same_memory) (h.chains r is);
+        passes = λ j ne was now. ([], refl);
+      }) (λ c. found_on defers fixed s id v h at (had_in has) m (ap (λ (y : Mem T). y.roots) same_memory) c (λ mine. sym had ∙ mine)) hand known own bounded so is
+
 module _ {T : Type 0} where
   -- a view for each thing that is known of a block, of a seat that stays where it is, and has no row under way
   pub record Carries (t : ℕ) (place : Has T → SlotView T) : Type 0 where
@@ -139,6 +162,7 @@ module _ {T : Type 0} where
     pub short : (has : Has T) → IsShort (place has)
     pub hand : (has : Has T) → hand_of (place has) ≡ had_in has
     pub known : (defers : T → Option ℕ) (w : World T) (has : Has T) → IsInHand defers w t has → IsKnown defers w (place has)
+    pub own : (w : World T) (j : ℕ) (has : Has T) → IsItsOwn w j (place has)
     pub bounded : (defers : T → Option ℕ) (fixed : Fixed) (w : World T) (j : ℕ) (has : Has T) → IsBounded defers fixed w j (place has)
 
   -- as one within a section of this slot does, or one without a slot
@@ -150,11 +174,12 @@ module _ {T : Type 0} where
     short = λ has. tt;
     hand = λ has. refl;
     known = λ defers w has is. is;
+    own = λ w j has. tt;
     bounded = λ defers fixed w j has. tt;
   }
 
   pub alone_carries : Carries 0 alone_with
-  alone_carries = record { rests = rests; stays = λ has other. none has ∙ sym (none other); short = short; hand = hand; known = known; bounded = bounded }
+  alone_carries = record { rests = rests; stays = λ has other. none has ∙ sym (none other); short = short; hand = hand; known = known; own = own; bounded = bounded }
     where
       rests : (has : Has T) → row_of (alone_with has) ≡ world.Rests
       rests Nothing = refl
@@ -196,6 +221,14 @@ module _ {T : Type 0} where
       known defers w (Cut b) is = is
       known defers w (Walks b next) is = tt
 
+      own : (w : World T) (j : ℕ) (has : Has T) → IsItsOwn w j (alone_with has)
+      own w j Nothing = tt
+      own w j (Made b x) = tt
+      own w j (Seen b) = tt
+      own w j (Both b x a) = tt
+      own w j (Cut b) = tt
+      own w j (Walks b next) = tt
+
       bounded : (defers : T → Option ℕ) (fixed : Fixed) (w : World T) (j : ℕ) (has : Has T) → IsBounded defers fixed w j (alone_with has)
       bounded defers fixed w j Nothing = tt
       bounded defers fixed w j (Made b x) = tt
@@ -211,14 +244,14 @@ module _ {T : Type 0} (defers : T → Option ℕ) (fixed : Fixed) (s : State T (
       → Leads defers fixed s m id so
   users place c had at m n has u found so is =
       users_on defers fixed s id t (place had) (place has) h at (c.rests had) (c.rests has) (c.stays has had) (c.short has) m n has u found (c.hand has)
-      (c.known defers n has u.in_hand) (c.bounded defers fixed n id has) so is
+      (c.known defers n has u.in_hand) (c.own n id has) (c.bounded defers fixed n id has) so is
 
   -- or outside of one, where it knows of no block, or of one that it has unlinked
   pub users_outside : view_of s id ≡ Some (Outside t) → (m : Mem T) (n : World T) → Users defers fixed s id t m n Nothing
       → AreFound s id h.life.began fixed None m n.hand → (so : SlotView T → Type 0) → so (Outside t) → Leads defers fixed s m id so
-  users_outside at m n u found so is = users_on defers fixed s id t (Outside t) (Outside t) h at refl refl refl tt m n Nothing u found refl tt tt so is
+  users_outside at m n u found so is = users_on defers fixed s id t (Outside t) (Outside t) h at refl refl refl tt m n Nothing u found refl tt tt tt so is
 
   pub users_owe : view_of s id ≡ Some (Outside t) → (m : Mem T) (n : World T) (b : ℕ) → Users defers fixed s id t m n (Cut b)
       → AreFound s id h.life.began fixed (Some b) m n.hand → (so : SlotView T → Type 0) → so (Owes t b) → Leads defers fixed s m id so
   users_owe at m n b u found so is =
-      users_on defers fixed s id t (Outside t) (Owes t b) h at refl refl refl tt m n (Cut b) u found refl u.in_hand tt so is
+      users_on defers fixed s id t (Outside t) (Owes t b) h at refl refl refl tt m n (Cut b) u found refl u.in_hand tt tt so is

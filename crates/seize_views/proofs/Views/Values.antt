@@ -54,7 +54,7 @@ module _ (T : Type 0) (defers : T → Option ℕ) (fixed : Fixed) (s : State T (
       let c = h.chains r is in
       let k = stands_there defers s.memory c.blocks (block_in c.word) b c.stand (subst (λ (n : ℕ). 0 < n) (sym (c.once b e)) (omega arith)) in
       inr (inl (r, k.0, block_in c.word, (c.word, c.at, refl), k.1))
-  found_by_hand some (world.Parting i) e f = absurd f
+  found_by_hand some (world.Parting i) e f = had (world.Parting i) e f
   found_by_hand some (world.Cutting i) e f = had (world.Cutting i) e f
   found_by_hand some world.Handed e f = inr (inr (inl (is_reached (handed_are_reached defers fixed.batch_size (all_roots fixed) h.came.0 s.world h.came.1 b e))))
   found_by_hand some (world.LeftTo i) e f = absurd f

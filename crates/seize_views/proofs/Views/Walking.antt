@@ -18,7 +18,7 @@ use Rattle.seize_views.specs.Views.Stacking.{IsOnItsWay, WaysBegin, ChainsAreSee
 use Rattle.seize_views.specs.Views.Told.{cut_in, told}
 use Rattle.seize_views.specs.declared.view.TheConstants.{LINK}
 use Rattle.seize_views.specs.declared.view.SlotView.{SlotView}
-use Rattle.seize_views.specs.declared.view.SlotView.TheVariants.{Rests, Registers, Outside, Owes, Enters, Inside, Settles, Leaves, Left, Frees, Brings, Bears, Watches, Under, Joins, Busy}
+use Rattle.seize_views.specs.declared.view.SlotView.TheVariants.{Rests, Registers, Outside, Owes, Enters, Inside, Settles, Leaves, Left, Frees, Brings, Bears, Watches, Under, Joins, Defers, Busy}
 use Rattle.seize_views.specs.declared.view.Has.{Has}
 use Rattle.seize_views.specs.declared.view.Has.TheVariants.{Nothing, Made, Seen, Both, Cut, Walks}
 use Rattle.seize_views.specs.declared.view.Fixed.{Fixed}
@@ -276,7 +276,7 @@ module _ {T : Type 0} (defers : T → Option ℕ) (fixed : Fixed) (id : ℕ) whe
 
   turns_to_chains : TurnsTo defers fixed id Rests (λ x. x ≡ Joins None)
   turns_to_chains s h at =
-      aside_on defers fixed s id Rests (Joins None) h at refl refl refl tt refl refl tt tt s.memory refl (λ x. x ≡ Joins None) refl
+      aside_on defers fixed s id Rests (Joins None) h at refl refl refl tt refl refl tt tt tt s.memory refl (λ x. x ≡ Joins None) refl
 
   turns : (v u : SlotView T) → IsOnItsWay v u → TurnsTo defers fixed id v (λ x. x ≡ u)
   turns Rests u is = to_is Rests (Joins None) u is turns_to_chains
@@ -301,6 +301,7 @@ module _ {T : Type 0} (defers : T → Option ℕ) (fixed : Fixed) (id : ℕ) whe
   turns (Bears b) u is = absurd is
   turns (Watches t b) u is = absurd is
   turns (Under n t b) u is = absurd is
+  turns (Defers t c) u is = absurd is
   turns (Busy t) u is = absurd is
 
 module _ (T : Type 0) (defers : T → Option ℕ) where

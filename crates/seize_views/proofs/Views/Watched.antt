@@ -6,11 +6,13 @@ use Rattle.seize.specs.Law.{Effect, holds}
 use Rattle.seize.specs.World.{World, Use, IsInside}
 use Rattle.seize.specs.World as world
 use Rattle.seize_seats.specs.Seats.State.{State, view_of}
-use Rattle.seize_views.specs.Views.Rows.{Holds, HeldStay, IsUsed, use_of}
+use Rattle.seize_views.specs.Views.Rows.{Holds, HeldStay, IsUsed, use_of, used_by}
 use Rattle.seize_views.specs.Views.Watched.{one, open_at, is_watching, LeansOn, IsOwn, watchers, watching, Stays, IsBase, Upholds, AreLeaned, AreWatched}
 use Rattle.seize_views.specs.declared.view.Noted.{Noted}
 use Rattle.seize_views.specs.declared.view.SlotView.{SlotView}
-use Rattle.seize_views.specs.declared.view.SlotView.TheVariants.{Rests, Registers, Outside, Owes, Enters, Inside, Settles, Leaves, Left, Frees, Brings, Bears, Watches, Under, Joins, Busy}
+use Rattle.seize_views.specs.declared.view.SlotView.TheVariants.{Rests, Registers, Outside, Owes, Enters, Inside, Settles, Leaves, Left, Frees, Brings, Bears, Watches, Under, Joins, Defers, Busy}
+use Rattle.seize_views.specs.declared.view.Deferral.{Deferral}
+use Rattle.seize_views.specs.declared.view.Deferral.TheVariants.{Takes, Parts, Puts}
 use Rattle.seize_views.specs.declared.view.Why.TheVariants.{Retiring, Ending}
 use Rattle.seize_views.specs.declared.view.Becomes.TheVariants.{Idle, Active}
 use Rattle.seize_views.specs.declared.view.Fixed.{Fixed}
@@ -57,8 +59,14 @@ module _ {T : Type 0} where
   open_used (Bears b) t e = absurd (cc e)
   open_used (Watches u b) t e = absurd (cc e)
   open_used (Under n u b) t e = absurd (cc e)
+  open_used (Defers u c) t e = (used_by c, ap (λ (k : ℕ). Some (k, used_by c)) (same_some u t e))
   open_used (Busy None) t e = absurd (cc e)
   open_used (Busy (Some u)) t e = (world.Inside 0, ap (λ (k : ℕ). Some (k, world.Inside 0)) (same_some u t e))
+
+  inside_so : (c : Deferral T) → IsInside (used_by c)
+  inside_so (Takes a y made) = tt
+  inside_so (Parts a y b x) = tt
+  inside_so (Puts a c) = tt
 
   -- and is open in the world
   pub open_inside : (w : World T) (x : SlotView T) (t : ℕ) → open_at x ≡ Some t → IsUsed w (use_of x) → IsInside (w.uses t)
@@ -80,6 +88,7 @@ module _ {T : Type 0} where
   open_inside w (Bears b) t e is = absurd (cc e)
   open_inside w (Watches u b) t e is = absurd (cc e)
   open_inside w (Under n u b) t e is = absurd (cc e)
+  open_inside w (Defers u c) t e is = subst (λ (k : ℕ). IsInside (w.uses k)) (same_some u t e) (subst (λ (a : Use). IsInside a) (sym is) (inside_so c))
   open_inside w (Busy None) t e is = absurd (cc e)
   open_inside w (Busy (Some u)) t e is = subst (λ (k : ℕ). IsInside (w.uses k)) (same_some u t e) (subst (λ (a : Use). IsInside a) (sym is) tt)
 
@@ -100,6 +109,7 @@ own_watches (Joins block) t own = refl
 own_watches (Bears b) t own = refl
 own_watches (Watches u b) t own = absurd own
 own_watches (Under n u b) t own = absurd own
+own_watches (Defers u c) t own = refl
 own_watches (Busy u) t own = refl
 
 pub own_not : {T : Type 0} (x : SlotView T) (t b : ℕ) → IsOwn x → x ≡ Watches t b → ⊥

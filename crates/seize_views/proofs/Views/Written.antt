@@ -169,41 +169,83 @@ module _ {T : Type 0} (defers : T → Option ℕ) (fixed : Fixed) (s : State T (
       by (world.Making i) f = inl (has (world.Making i) f)
       by (world.InUse r) (inl f) = at_root r f.0 f.1 f.2 (cases_eq r a)
       by (world.InUse r) (inr chain) = inl (inr chain)
-      by (world.Parting i) f = absurd f
+      by (world.Parting i) f = inl (has (world.Parting i) f)
       by (world.Cutting i) f = inl (has (world.Cutting i) f)
       by world.Handed f = inl tt
       by (world.LeftTo i) f = absurd f
 
-  -- The block that was at the root, if there was one, is unlinked; `n` is the world before that, in which it is linked there, and each other one is found.
-  pub unlinked : (t a old : ℕ) (m : Mem T) (n : World T) (so : SlotView T → Type 0) → a < fixed.roots → Cuts defers fixed s id h.life.began t m old so → Users defers fixed s id t m n Nothing
+  -- The block that was at the root, if there was one, goes out, and the seat goes on; `n` is the world before that, in which it is linked there, and each other
+  -- one is found.
+  abbrev pub GoesOut : (t a old : ℕ) → Mem T → (SlotView T → Type 0) → Type 0
+  GoesOut t a old m so =
+      (n : World T) → Users defers fixed s id t m n Nothing
       → RootsNameLinked m n.hand
       → ((b : ℕ) → FoundIn m None b (n.hand b) ⊎ ((block_in old ≡ b) × (b ≢ 0)))
       → ((b : ℕ) → w.hand b ≡ world.InUse a → n.hand b ≡ world.InUse a)
       → (block_in old ≡ 0) ⊎ (w.hand (block_in old) ≡ world.InUse a)
       → ((c found : ℕ) → word_at m (Root c) ≡ Some found → (block_in found ≡ 0) ⊎ (block_in found ≢ block_in old))
       → Leads defers fixed s m id so
-  unlinked t a old m n so plain goes u named found still was fresh = by (block_in old == 0) refl was
-    where
-      -- where it was none each block was found
-      none_found : (b : ℕ) → (block_in old == 0) ≡ true → FoundIn m None b (n.hand b) ⊎ ((block_in old ≡ b) × (b ≢ 0))
-          → FoundIn m None b (n.hand b)
-      none_found b e (inl f) = f
-      none_found b e (inr is) = absurd (is.1 (sym is.0 ∙ eqb-true (block_in old) 0 e))
 
-      -- and where it was one the seat has that
-      cut_found : (b : ℕ) → (b ≡ block_in old) ⊎ (b ≢ block_in old)
-          → FoundIn m None b (n.hand b) ⊎ ((block_in old ≡ b) × (b ≢ 0)) → FoundIn m (Some (block_in old)) b (with_at n.hand (block_in old) (world.Cutting id) b)
-      cut_found b (inl is) before =
-          subst (λ (k : Hand). FoundIn m (Some (block_in old)) b k)
-          (sym (ap (with_at n.hand (block_in old) (world.Cutting id)) is ∙ with_here n.hand (block_in old) (world.Cutting id))) (inl (ap Some (sym is)))
-      cut_found b (inr ne) (inl f) =
-          subst (λ (k : Hand). FoundIn m (Some (block_in old)) b k) (sym (with_other n.hand (block_in old) b (world.Cutting id) ne))
-          (found_at fixed m m b (HasNow s id h.life.began None b) (HasNow s id h.life.began (Some (block_in old)) b) refl
-          (has_more s id h.life.began None (Some (block_in old)) b (λ e. absurd (cc e))) (n.hand b) f)
-      cut_found b (inr ne) (inr is) = absurd (ne (sym is.0))
+  -- where it was none each block was found
+  pub none_found : (old : ℕ) (m : Mem T) (n : World T) (b : ℕ) → (block_in old == 0) ≡ true → FoundIn m None b (n.hand b) ⊎ ((block_in old ≡ b) × (b ≢ 0))
+      → FoundIn m None b (n.hand b)
+  none_found old m n b e (inl f) = f
+  none_found old m n b e (inr is) = absurd (is.1 (sym is.0 ∙ eqb-true (block_in old) 0 e))
+
+  -- where it was one that is in this hand of the seat from now on
+  module _ (t a old : ℕ) (m : Mem T) (n : World T) (u : Users defers fixed s id t m n Nothing) (linked : w.hand (block_in old) ≡ world.InUse a)
+      (mine : n.hand (block_in old) ≡ world.InUse a) (k : Hand) (no_use : (r : ℕ) → k ≡ world.InUse r → ⊥) where
+    abbrev gone : ℕ → Hand
+    gone = with_at n.hand (block_in old) k
+
+    -- it was in no hand
+    not_had : (j b : ℕ) (y : SlotView T) → view_of s j ≡ Some y → hand_of y ≡ Some b → b ≡ block_in old → ⊥
+    not_had j b y e q is = (hand_users defers w y b (h.seats j y e).known q).1 a (ap w.hand is ∙ linked)
+
+    pub gone_hands : (j b : ℕ) (y : SlotView T) → j ≢ id → view_of s j ≡ Some y → hand_of y ≡ Some b → gone b ≡ w.hand b
+    gone_hands j b y ne e q = with_other n.hand (block_in old) b k (not_had j b y e q) ∙ u.hands j b y ne e q
+
+    pub gone_sole : (j b : ℕ) (y : SlotView T) → j ≢ id → view_of s j ≡ Some y → hand_of y ≡ Some b → Some (block_in old) ≡ Some b → ⊥
+    gone_sole j b y ne e q p = not_had j b y e q (sym (same_some (block_in old) b p))
+
+    pub gone_roots : RootsNameLinked m n.hand
+        → ((c found : ℕ) → word_at m (Root c) ≡ Some found → (block_in found ≡ 0) ⊎ (block_in found ≢ block_in old)) → RootsNameLinked m gone
+    gone_roots named fresh c found e = elim (fresh c found e) as (λ _. (block_in found ≡ 0) ⊎ (gone (block_in found) ≡ world.InUse c)) [
+      | inl none ↦ inl none
+      | inr ne ↦ other (named c found e) ne
+    ]
+      where
+        other : (block_in found ≡ 0) ⊎ (n.hand (block_in found) ≡ world.InUse c) → block_in found ≢ block_in old
+            → (block_in found ≡ 0) ⊎ (gone (block_in found) ≡ world.InUse c)
+        other (inl none) ne = inl none
+        other (inr f) ne = inr (with_other n.hand (block_in old) (block_in found) k ne ∙ f)
+
+    pub gone_chains : a < fixed.roots → (r : ℕ) → IsChainRoot fixed r → Chain defers m gone r
+    gone_chains plain r is =
+        chain_kept defers m m n.hand gone r refl
+        (λ b e. linked_beside n.hand (block_in old) k r b (λ its. not_chain fixed a r plain is (same_use r a (sym its ∙ mine))) e)
+        (λ b e. linked_back n.hand (block_in old) k r b (no_use r) e) (λ b e has. (refl, refl)) (u.chains r is)
+
+    pub gone_found : FoundIn m (Some (block_in old)) (block_in old) k → (b : ℕ) → (b ≡ block_in old) ⊎ (b ≢ block_in old)
+        → FoundIn m None b (n.hand b) ⊎ ((block_in old ≡ b) × (b ≢ 0)) → FoundIn m (Some (block_in old)) b (gone b)
+    gone_found here b (inl is) before =
+        subst (λ (c : ℕ). FoundIn m (Some (block_in old)) c (gone c)) (sym is)
+        (subst (λ (l : Hand). FoundIn m (Some (block_in old)) (block_in old) l) (sym (with_here n.hand (block_in old) k)) here)
+    gone_found here b (inr ne) (inl f) =
+        subst (λ (l : Hand). FoundIn m (Some (block_in old)) b l) (sym (with_other n.hand (block_in old) b k ne))
+        (found_at fixed m m b (HasNow s id h.life.began None b) (HasNow s id h.life.began (Some (block_in old)) b) refl
+        (has_more s id h.life.began None (Some (block_in old)) b (λ e. absurd (cc e))) (n.hand b) f)
+    gone_found here b (inr ne) (inr is) = absurd (ne (sym is.0))
+
+  -- it is unlinked
+  pub unlinked : (t a old : ℕ) (m : Mem T) (so : SlotView T → Type 0) → a < fixed.roots → Cuts defers fixed s id h.life.began t m old so → GoesOut t a old m so
+  unlinked t a old m so plain goes n u named found still was fresh = by (block_in old == 0) refl was
+    where
+      no_use : (r : ℕ) → world.Cutting id ≡ world.InUse r → ⊥
+      no_use r e = cc e
 
       by : (y : Bool) → (block_in old == 0) ≡ y → (block_in old ≡ 0) ⊎ (w.hand (block_in old) ≡ world.InUse a) → Leads defers fixed s m id so
-      by true e was = goes.none e n u (λ b. none_found b e (found b))
+      by true e was = goes.none e n u (λ b. none_found old m n b e (found b))
       by false e (inl none) = absurd (let k = eq-eqb (block_in old) 0 none in cc (k, e))
       by false e (inr linked) =
           let mine : n.hand (block_in old) ≡ world.InUse a = still (block_in old) linked in
@@ -214,38 +256,27 @@ module _ {T : Type 0} (defers : T → Option ℕ) (fixed : Fixed) (s : State T (
             row = u.row;
             uses = u.uses;
             in_hand = (id, with_here n.hand (block_in old) (world.Cutting id));
-            hands = λ j b y ne e q. with_other n.hand (block_in old) b (world.Cutting id)
-                (λ k. (hand_users defers w y b (h.seats j y e).known q).1 a (ap w.hand k ∙ linked)) ∙ u.hands j b y ne e q;
-            sole = λ j b y ne e q p. (hand_users defers w y b (h.seats j y e).known q).1 a (ap w.hand (sym (same_some (block_in old) b p)) ∙ linked);
+            hands = gone_hands t a old m n u linked mine (world.Cutting id) no_use;
+            sole = gone_sole t a old m n u linked mine (world.Cutting id) no_use;
             values = u.values;
             links = u.links;
             held = λ c b held. held_on c b (Unlinked (block_in old)) n.log tt (u.held c b held);
             over = u.over;
-            roots = λ c found e. elim (fresh c found e) as (λ _. (block_in found ≡ 0) ⊎ (x.hand (block_in found) ≡ world.InUse c)) [
-              | inl none ↦ inl none
-              | inr ne ↦ other c found (named c found e) ne
-            ];
+            roots = gone_roots t a old m n u linked mine (world.Cutting id) no_use named fresh;
             rooted = u.rooted;
-            chains = λ r is. chain_kept defers m m n.hand x.hand r refl
-                (λ b e. linked_beside n.hand (block_in old) (world.Cutting id) r b (λ its. not_chain fixed a r plain is (same_use r a (sym its ∙ mine))) e)
-                (λ b e. linked_back n.hand (block_in old) (world.Cutting id) r b (λ k. cc k) e) (λ b e has. (refl, refl)) (u.chains r is);
+            chains = gone_chains t a old m n u linked mine (world.Cutting id) no_use plain;
             passes = passes_then defers fixed s id t n x (Unlinks id (block_in old)) tt (λ j. tt) u.passes
                 (subst (λ (k : Hand). MayCut id k) (sym mine) tt, refl);
-          }) (λ b. cut_found b (cases_eq b (block_in old)) (found b))
-        where
-          other : (c found : ℕ) → (block_in found ≡ 0) ⊎ (n.hand (block_in found) ≡ world.InUse c) → block_in found ≢ (block_in old)
-              → (block_in found ≡ 0) ⊎ (with_at n.hand (block_in old) (world.Cutting id) (block_in found) ≡ world.InUse c)
-          other c found (inl none) ne = inl none
-          other c found (inr f) ne = inr (with_other n.hand (block_in old) (block_in found) (world.Cutting id) ne ∙ f)
+          }) (λ b. gone_found t a old m n u linked mine (world.Cutting id) no_use (inl refl) b (cases_eq b (block_in old)) (found b))
 
   -- a root is cleared
   pub clears : (t a old : ℕ) (m : Mem T) → a < fixed.roots → hand_of v ≡ None → Wrote defers fixed s id a 0 old m → (so : SlotView T → Type 0)
-      → Cuts defers fixed s id h.life.began t m old so → Leads defers fixed s m id so
-  clears t a old m plain empty wrote so goes =
+      → GoesOut t a old m so → Leads defers fixed s m id so
+  clears t a old m plain empty wrote so out =
       let n : World T = record w { memory = m } in
       let was = h.roots a old wrote.there in
       let named : RootsNameLinked m n.hand = roots_now a 0 old m n.hand wrote (inl refl) (λ c e ne f. f) in
-      unlinked t a old m n so plain goes (record {
+      out n (record {
         since = wrote.since;
         memory = refl;
         row = refl;

@@ -1,5 +1,5 @@
 -- The rule with what each seat has done last: it is noted as it is done, and whatever a seat may do by what it knows it may do.
-use Rattle.std.specs.Prelude.{◌≡◌, ◌≢◌, ◌+◌, ◌<◌, ◌^◌, ℕ, true, Option, Some, None, Ok, Err, map}
+use Rattle.std.specs.Prelude.{◌≡◌, ◌≢◌, ◌+◌, ◌<◌, ◌^◌, ℕ, true, Option, Some, None, Ok, Err, map, option_map}
 use Rattle.seize_words.specs.OneMemory.Word.{block_in}
 use Rattle.seize_words.specs.OneMemory.Op.{Op, Out, Load, Swap, Or, Exchange, Found, Exchanged}
 use Rattle.seize_words.specs.declared.at.At.TheVariants.{Root}
@@ -21,7 +21,8 @@ use Rattle.seize_views.specs.declared.view.Deed.TheVariants.{NoneYet, Looked, Wr
 use Rattle.seize_views.specs.declared.view.Began.{Began}
 use Rattle.seize_views.specs.declared.view.Began.TheVariants.{NotYet}
 use Rattle.seize_views.specs.declared.view.SlotView.{SlotView}
-use Rattle.seize_views.specs.declared.view.SlotView.TheVariants.{Rests, Outside, Inside, Brings, Bears, Watches, Under, Joins}
+use Rattle.seize_views.specs.declared.view.SlotView.TheVariants.{Rests, Outside, Inside, Brings, Bears, Watches, Under, Joins, Defers}
+use Rattle.seize_views.specs.declared.view.Deferral.TheVariants.{Takes}
 use Rattle.seize_views.specs.declared.view.Has.{Has}
 use Rattle.seize_views.specs.declared.view.Has.TheVariants.{Made, Both}
 use Rattle.seize_views.specs.declared.view.Becomes.{Becomes}
@@ -65,6 +66,7 @@ module _ {T : Type 0} where
   deed (Joins (Some made)) did op out = deed_at (Some made.1) did op out
   deed (Watches t b) did op out = deed_at None did op out
   deed (Under n t b) did op out = deed_at None did op out
+  deed (Defers t (Takes a y made)) did op out = deed_at (option_map (λ (m : ℕ × T). m.1) made) did op out
   deed v did op out = did
 
   -- it has looked at a root, or had a word there compared: where, and which block that named, 0 for none

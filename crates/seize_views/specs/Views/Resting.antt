@@ -11,7 +11,7 @@ use Rattle.seize_views.specs.Views.Watched.{open_at, LeansOn, Leans, IsOwn, IsOf
 use Rattle.seize_views.specs.Views.Told.{told, alone_with, joined_as, owes_in}
 use Rattle.seize_views.specs.declared.view.Noted.{Noted}
 use Rattle.seize_views.specs.declared.view.SlotView.{SlotView}
-use Rattle.seize_views.specs.declared.view.SlotView.TheVariants.{Rests, Registers, Outside, Owes, Enters, Inside, Settles, Leaves, Left, Frees, Brings, Bears, Watches, Under, Joins, Busy}
+use Rattle.seize_views.specs.declared.view.SlotView.TheVariants.{Rests, Registers, Outside, Owes, Enters, Inside, Settles, Leaves, Left, Frees, Brings, Bears, Watches, Under, Joins, Defers, Busy}
 use Rattle.seize_views.specs.declared.view.Has.{Has}
 use Rattle.seize_views.specs.declared.view.Has.TheVariants.{Nothing, Made, Seen, Both, Cut, Walks}
 
@@ -94,6 +94,7 @@ module _ {T : Type 0} (defers : T → Option ℕ) where
   observed_rests (Leaves t size way) op out w is r = absurd r
   observed_rests (Left t size way) op out w is r = absurd r
   observed_rests (Frees t) op out w is r = absurd r
+  observed_rests (Defers t c) op out w is r = absurd r
   observed_rests (Busy t) op out w is r = absurd r
 
   pub resting_stay : (v : Noted T) (op : Op T) (out : Out T) (w : Noted T) → noted_observed defers v op out w → IsQuiescent v.knows → IsQuiescent w.knows
@@ -117,6 +118,7 @@ module _ {T : Type 0} where
   leans_under (Bears b) n is = absurd is
   leans_under (Watches t b) n is = absurd is
   leans_under (Joins block) n is = absurd is
+  leans_under (Defers t c) n is = absurd is
   leans_under (Busy t) n is = absurd is
 
   pub own_leans : (x : SlotView T) (n : ℕ) → IsOwn x → LeansOn x n → ⊥
@@ -181,6 +183,7 @@ module _ {T : Type 0} (defers : T → Option ℕ) where
   observed_leans (Brings b x) op out w is n leans = absurd (own_leans w n (observed_still defers (Brings b x) op out w tt is).own leans)
   observed_leans (Bears b) op out w is n leans = absurd (own_leans w n (observed_still defers (Bears b) op out w tt is).own leans)
   observed_leans (Joins block) op out w is n leans = absurd (own_leans w n (observed_still defers (Joins block) op out w tt is).own leans)
+  observed_leans (Defers t c) op out w is n leans = absurd (own_leans w n (observed_still defers (Defers t c) op out w tt is).own leans)
   observed_leans (Busy t) op out w is n leans = absurd (own_leans w n (observed_still defers (Busy t) op out w tt is).own leans)
 
   pub leaning_stay : (v : Noted T) (op : Op T) (out : Out T) (w : Noted T) → noted_observed defers v op out w → (n : ℕ) → Leans w n → Leans v n

@@ -24,9 +24,11 @@ use Rattle.seize_views.specs.declared.view.TheConstants.{LINK}
 use Rattle.seize_views.specs.declared.view.SlotView.{SlotView}
 use Rattle.seize_views.specs.declared.view.Becomes.{Becomes}
 use Rattle.seize_views.specs.declared.view.Becomes.TheVariants.{Idle, Active}
-use Rattle.seize_views.specs.declared.view.SlotView.TheVariants.{Rests, Registers, Outside, Owes, Enters, Inside, Settles, Leaves, Left, Frees, Brings, Bears, Watches, Under, Joins, Busy}
+use Rattle.seize_views.specs.declared.view.SlotView.TheVariants.{Rests, Registers, Outside, Owes, Enters, Inside, Settles, Leaves, Left, Frees, Brings, Bears, Watches, Under, Joins, Defers, Busy}
 use Rattle.seize_views.specs.declared.view.Has.{Has}
 use Rattle.seize_views.specs.declared.view.Has.TheVariants.{Nothing, Made, Seen, Both, Cut, Walks}
+use Rattle.seize_views.specs.declared.view.Deferral.{Deferral}
+use Rattle.seize_views.specs.declared.view.Deferral.TheVariants.{Takes, Parts, Puts}
 use Rattle.seize_views.specs.declared.view.Why.{Why}
 use Rattle.seize_views.specs.declared.view.Why.TheVariants.{Retiring, Ending}
 use Rattle.seize_views.specs.declared.view.Fixed.{Fixed}
@@ -54,6 +56,23 @@ used_for (Retiring Idle) = world.Outside 1
 used_for (Retiring Active) = world.Inside 1
 used_for (Ending size way) = world.Changing
 
+-- the row of a seat that defers a block, within the section of this slot; how that slot is used meanwhile; and the block that is in its hand, if one is
+abbrev pub row_for : {T : Type 0} → ℕ → Deferral T → Row
+row_for t (Takes a y made) = world.Rests
+row_for t (Parts a y b x) = world.Rests
+row_for t (Puts a c) = world.Defers t c
+
+abbrev pub used_by : {T : Type 0} → Deferral T → Use
+used_by (Takes a y made) = world.Inside 0
+used_by (Parts a y b x) = world.Inside 0
+used_by (Puts a c) = world.Inside 1
+
+abbrev pub had_by : {T : Type 0} → Deferral T → Option ℕ
+had_by (Takes a y None) = None
+had_by (Takes a y (Some made)) = Some made.0
+had_by (Parts a y b x) = Some b
+had_by (Puts a c) = None
+
 -- the row that a seat has under way
 abbrev pub row_of : {T : Type 0} → SlotView T → Row
 row_of Rests = world.Rests
@@ -71,6 +90,7 @@ row_of (Bears b) = world.Rests
 row_of (Watches t b) = world.Rests
 row_of (Under n t b) = world.Rests
 row_of (Joins block) = world.Rests
+row_of (Defers t c) = row_for t c
 row_of (Busy t) = world.Rests
 
 -- it has nothing under way: no row, and nothing beside rows
@@ -82,6 +102,7 @@ IsQuiescent (Leaves t size way) = ⊥
 IsQuiescent (Left t size way) = ⊥
 IsQuiescent (Frees t) = ⊥
 IsQuiescent (Under n t b) = ⊥
+IsQuiescent (Defers t c) = ⊥
 IsQuiescent (Busy t) = ⊥
 IsQuiescent _ = Unit {0}
 
@@ -102,6 +123,7 @@ use_of (Bears b) = None
 use_of (Watches t b) = None
 use_of (Under n t b) = None
 use_of (Joins block) = None
+use_of (Defers t c) = Some (t, used_by c)
 use_of (Busy None) = None
 use_of (Busy (Some t)) = Some (t, world.Inside 0)
 
@@ -120,6 +142,7 @@ hand_of (Inside t has) = had_in has
 hand_of (Brings b x) = Some b
 hand_of (Bears b) = Some b
 hand_of (Joins (Some made)) = Some made.0
+hand_of (Defers t c) = had_by c
 hand_of _ = None
 
 -- registering seeks a slot, and has none yet
@@ -145,6 +168,7 @@ IsPlain (Bears b) = ⊥
 IsPlain (Watches t b) = ⊥
 IsPlain (Under n t b) = ⊥
 IsPlain (Joins block) = ⊥
+IsPlain (Defers t c) = ⊥
 IsPlain (Busy t) = ⊥
 IsPlain _ = Unit {0}
 
@@ -168,6 +192,29 @@ module _ {T : Type 0} where
   abbrev pub IsCut : World T → ℕ → Type 0
   IsCut w b = (h : ℕ) × (w.hand b ≡ world.Cutting h)
 
+  -- a block that was made is, if there is one
+  abbrev pub IsMadeSo : World T → Option (ℕ × T) → Type 0
+  IsMadeSo w None = Unit {0}
+  IsMadeSo w (Some made) = IsMade w made.0 made.1
+
+  -- the section of this slot holds the block, of this value
+  abbrev pub IsHeldSo : World T → ℕ → ℕ → T → Type 0
+  IsHeldSo w t a y = (holds t a w.log ≡ true) × (value_at w.memory a ≡ Some y)
+
+  -- some seat has taken the block out, of this value
+  abbrev pub IsPartingSo : World T → ℕ → T → Type 0
+  IsPartingSo w b x = ((h : ℕ) × (w.hand b ≡ world.Parting h)) × (value_at w.memory b ≡ Some x)
+
+  abbrev pub IsDeferring : World T → ℕ → Deferral T → Type 0
+  IsDeferring w t (Takes a y made) = IsHeldSo w t a y × IsMadeSo w made
+  IsDeferring w t (Parts a y b x) = IsHeldSo w t a y × IsPartingSo w b x
+  IsDeferring w t (Puts a c) = holds t a w.log ≡ true
+
+  -- the block that it has taken out is its own
+  abbrev pub IsItsOwn : World T → ℕ → SlotView T → Type 0
+  IsItsOwn w j (Defers t (Parts a y b x)) = w.hand b ≡ world.Parting j
+  IsItsOwn w j _ = Unit {0}
+
   -- the block that a settling is to look at is the one that it is about to reclaim, and has this value
   abbrev pub IsLooked : Mem T → Settle → Option (ℕ × T) → Type 0
   IsLooked m c None = Unit {0}
@@ -185,13 +232,13 @@ module _ {T : Type 0} where
   abbrev pub IsNamedAt : Mem T → ℕ → ℕ → Type 0
   IsNamedAt m r b = (word : ℕ) × (word_at m (Root r) ≡ Some word) × (block_in word ≡ b)
 
-  -- Where a block is, by whose it is: who has made or unlinked it has it so, and what is linked at a root is named there, or stands in the chain there; each
+  -- Where a block is, by whose it is: who has made it, taken it out or unlinked it has it so, and what is linked at a root is named there, or stands in the chain there; each
   -- other one is nobody's, or the collector's.
   abbrev pub IsFound : Fixed → Mem T → ℕ → (Hand → Type 0) → Hand → Type 0
   IsFound fixed m b has world.NoBlock = Unit {0}
   IsFound fixed m b has (world.Making h) = has (world.Making h)
   IsFound fixed m b has (world.InUse r) = IsNamedAt m r b ⊎ IsChainRoot fixed r
-  IsFound fixed m b has (world.Parting h) = ⊥
+  IsFound fixed m b has (world.Parting h) = has (world.Parting h)
   IsFound fixed m b has (world.Cutting h) = has (world.Cutting h)
   IsFound fixed m b has world.Handed = Unit {0}
   IsFound fixed m b has (world.LeftTo h) = ⊥
@@ -223,6 +270,7 @@ module _ {T : Type 0} (defers : T → Option ℕ) where
   IsKnown w (Bears b) = IsCut w b
   IsKnown w (Settles c why seen left) = IsLooked w.memory c seen
   IsKnown w (Joins block) = IsToStand w block
+  IsKnown w (Defers t c) = IsDeferring w t c
   IsKnown w (Busy t) = ⊥
   IsKnown w _ = Unit {0}
 
@@ -232,6 +280,7 @@ module _ {T : Type 0} (defers : T → Option ℕ) where
     pub slot : IsUsed w (use_of v)
     pub short : IsShort v
     pub known : IsKnown w v
+    pub its_own : IsItsOwn w j v
 
 module _ {T : Type 0} (defers : T → Option ℕ) (fixed : Fixed) where
   -- What a seat settles it has settled within so many steps: where its section has ended, its list is counted down; else its block is retired, or its batch

@@ -8,10 +8,11 @@ use Rattle.seize.specs.declared.states.TheConstants.{ACTIVE}
 use Rattle.seize.specs.declared.advance.Advance.TheVariants as progress
 use Rattle.seize.specs.declared.advance.Advance.{Advance}
 use Rattle.seize.specs.declared.rows.register.Register.{Register}
-use Rattle.seize_views.specs.Views.Told.{told, left_by, alone_with, joined_as, owes_in, list_taken}
+use Rattle.seize_views.specs.Views.Told.{told, left_by, alone_with, joined_as, owes_in, parted_in, list_taken}
 use Rattle.seize_views.specs.Views.Watched.{open_at, IsOwn}
 use Rattle.seize_views.specs.declared.view.SlotView.{SlotView}
-use Rattle.seize_views.specs.declared.view.SlotView.TheVariants.{Rests, Registers, Outside, Owes, Enters, Inside, Settles, Leaves, Left, Frees, Brings, Bears, Watches, Under, Joins, Busy}
+use Rattle.seize_views.specs.declared.view.SlotView.TheVariants.{Rests, Registers, Outside, Owes, Enters, Inside, Settles, Leaves, Left, Frees, Brings, Bears, Watches, Under, Joins, Defers, Busy}
+use Rattle.seize_views.specs.declared.view.Deferral.TheVariants.{Takes, Parts, Puts}
 use Rattle.seize_views.specs.declared.view.Has.{Has}
 use Rattle.seize_views.specs.declared.view.Has.TheVariants.{Nothing, Made, Seen, Both, Cut, Walks}
 use Rattle.seize_views.specs.declared.view.Why.TheVariants.{Retiring, Ending}
@@ -28,6 +29,14 @@ module _ (T : Type 0) where
   owes_own : (t word : ℕ) (b : Bool) → IsOwn {T = T} (if b then Outside t else Owes t (block_in word))
   owes_own t word true = tt
   owes_own t word false = tt
+
+  parted_own : (t a : ℕ) (y x : T) (word : ℕ) (b : Bool) → IsOwn {T = T} (if b then Inside t (Seen a) else Defers t (Parts a y (block_in word) x))
+  parted_own t a y x word true = tt
+  parted_own t a y x word false = tt
+
+  parted_open : (t a : ℕ) (y x : T) (word : ℕ) (b : Bool) → open_at {T = T} (if b then Inside t (Seen a) else Defers t (Parts a y (block_in word) x)) ≡ Some t
+  parted_open t a y x word true = refl
+  parted_open t a y x word false = refl
 
   list_own : (t size : ℕ) (way : Becomes) (head left : ℕ) (b : Bool) → nat_lt ACTIVE head ≡ b → IsOwn {T = T} (list_taken t size way head left)
   list_own t size way head left true e = rw e tt
@@ -86,6 +95,30 @@ module _ {T : Type 0} where
     swapped t size way op (Taken x) w is = absurd is
     swapped t size way op (Roomed x) w is = absurd is
 
+    parted : (t a : ℕ) (y : T) (made : Option (ℕ × T)) (op : Op T) (out : Out T) (w : SlotView T) → told defers (Defers t (Takes a y made)) op out w
+        → Still (Defers t (Takes a y made)) w
+    parted t a y made (Swap (Root r) word) (Found old) w is =
+        at_own (Defers t (Takes a y made)) w (parted_in t a y is.0 old) is.1 (parted_own T t a y is.0 old (block_in old == 0))
+        (inl (parted_open T t a y is.0 old (block_in old == 0)))
+    parted t a y made (Swap (Root r) word) Stored w is = absurd is
+    parted t a y made (Swap (Root r) word) (Exchanged x) w is = absurd is
+    parted t a y made (Swap (Root r) word) (OutMade x) w is = absurd is
+    parted t a y made (Swap (Root r) word) (Taken x) w is = absurd is
+    parted t a y made (Swap (Root r) word) (Roomed x) w is = absurd is
+    parted t a y made (Swap (Used r) word) out w is = absurd is
+    parted t a y made (Swap (Slot c b) word) out w is = absurd is
+    parted t a y made (Swap (Entry c b) word) out w is = absurd is
+    parted t a y made (Swap (Word c b) word) out w is = absurd is
+    parted t a y made (Load at) out w is = absurd is
+    parted t a y made (Store at word) out w is = absurd is
+    parted t a y made (Add at word) out w is = absurd is
+    parted t a y made (Or at word) out w is = absurd is
+    parted t a y made (Exchange at old word) out w is = absurd is
+    parted t a y made (Make x words) out w is = absurd is
+    parted t a y made (Take b) out w is = absurd is
+    parted t a y made (Rewrite b x) out w is = absurd is
+    parted t a y made (Room b) out w is = absurd is
+
     pub observed_still : (v : SlotView T) (op : Op T) (out : Out T) (w : SlotView T) → IsOwn v → told defers v op out w → Still v w
     observed_still Rests op out w own is = at_own Rests w (alone_with is.0) is.2 (alone_own is.0) (inr refl)
     observed_still (Registers c) op out w own is = at_own (Registers c) w (left_by is.0) is.2 (left_own T is.0) (inr refl)
@@ -107,4 +140,7 @@ module _ {T : Type 0} where
     observed_still (Watches t b) op out w own is = absurd own
     observed_still (Under n t b) op out w own is = absurd own
     observed_still (Joins block) op out w own is = at_own (Joins block) w (joined_as is.0) is.2 (joined_own is.0) (inr refl)
+    observed_still (Defers t (Takes a y made)) op out w own is = parted t a y made op out w is
+    observed_still (Defers t (Parts a y b x)) op out w own is = absurd is
+    observed_still (Defers t (Puts a c)) op out w own is = at_own (Defers t (Puts a c)) w (Defers t (Puts a is.0.0)) is.2 tt (inl refl)
     observed_still (Busy t) op out w own is = absurd is

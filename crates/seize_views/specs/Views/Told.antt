@@ -11,13 +11,16 @@ use Rattle.seize.specs.declared.advance.Advance.TheVariants as progress
 use Rattle.seize.specs.declared.rows.register.Register.{Register}
 use Rattle.seize.specs.declared.rows.settle.Settle.{Settle}
 use Rattle.seize.specs.declared.rows.settle.Settled.{Settled}
+use Rattle.seize.specs.Defer.{defer_plan}
+use Rattle.seize.specs.declared.rows.defer.Defer.{Defer}
 use Rattle.seize.specs.Register.{register_plan}
 use Rattle.seize.specs.Settle.{counting_down, settle_plan}
 use Rattle.seize_straight.specs.Going.{DropGoes}
 use Rattle.seize_views.specs.Views.Rows.{IsShort}
 use Rattle.seize_views.specs.declared.view.SlotView.{SlotView}
 use Rattle.seize_views.specs.declared.view.Becomes.{Becomes}
-use Rattle.seize_views.specs.declared.view.SlotView.TheVariants.{Rests, Registers, Outside, Owes, Enters, Inside, Settles, Leaves, Left, Frees, Brings, Bears, Watches, Under, Joins}
+use Rattle.seize_views.specs.declared.view.SlotView.TheVariants.{Rests, Registers, Outside, Owes, Enters, Inside, Settles, Leaves, Left, Frees, Brings, Bears, Watches, Under, Joins, Defers}
+use Rattle.seize_views.specs.declared.view.Deferral.TheVariants.{Takes, Parts, Puts}
 use Rattle.seize_views.specs.declared.view.Has.{Has}
 use Rattle.seize_views.specs.declared.view.Has.TheVariants.{Nothing, Made, Seen, Both, Cut, Walks}
 use Rattle.seize_views.specs.declared.view.Why.{Why}
@@ -95,6 +98,10 @@ joined_as (Some made) = Joins (Some made)
 abbrev pub owes_in : {T : Type 0} → ℕ → ℕ → SlotView T
 owes_in t word = if block_in word == 0 then Outside t else Owes t (block_in word)
 
+-- what one knows that has seen the first block, of this value, and has taken out what this word names, of the other value
+abbrev pub parted_in : {T : Type 0} → ℕ → ℕ → T → T → ℕ → SlotView T
+parted_in t a y x word = if block_in word == 0 then Inside t (Seen a) else Defers t (Parts a y (block_in word) x)
+
 -- what was looked at
 abbrev pub shown_by : {T : Type 0} → Option (ℕ × T) → ℕ → Option T
 shown_by None b = None
@@ -147,4 +154,6 @@ module _ {T : Type 0} (defers : T → Option ℕ) where
   told (Under n t b) (Load (Root r)) (Found word) w = w ≡ Under n t (block_in word)
   told (Joins block) op out w = (after : Option (ℕ × T × ℕ)) × has_joined block op out after × (w ≡ joined_as after)
   told (Under n t b) (Or (Root r) bits) (Found word) w = w ≡ Under n t (block_in word)
+  told (Defers t (Takes a y made)) (Swap (Root r) word) (Found old) w = (x : T) × (w ≡ parted_in t a y x old)
+  told (Defers t (Puts a c)) op out w = (end : Defer × Advance Unit) × HasOutcome (defer_plan {T = T} c) out end × (w ≡ Defers t (Puts a end.0))
   told _ op out w = ⊥

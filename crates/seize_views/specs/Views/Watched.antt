@@ -5,7 +5,7 @@ use Rattle.seize.specs.Law.{Effect, holds}
 use Rattle.seize.specs.World.{World}
 use Rattle.seize_seats.specs.Seats.State.{State}
 use Rattle.seize_views.specs.declared.view.SlotView.{SlotView}
-use Rattle.seize_views.specs.declared.view.SlotView.TheVariants.{Inside, Settles, Watches, Under, Busy}
+use Rattle.seize_views.specs.declared.view.SlotView.TheVariants.{Inside, Settles, Watches, Under, Defers, Busy}
 use Rattle.seize_views.specs.declared.view.Why.TheVariants.{Retiring}
 use Rattle.seize_views.specs.declared.view.Becomes.TheVariants.{Active}
 use Rattle.seize_views.specs.declared.view.Noted.{Noted}
@@ -19,6 +19,7 @@ module _ {T : Type 0} where
   abbrev pub open_at : SlotView T → Option ℕ
   open_at (Inside t has) = Some t
   open_at (Settles c (Retiring Active) seen left) = Some c.slot
+  open_at (Defers t c) = Some t
   open_at (Busy t) = t
   open_at _ = None
 

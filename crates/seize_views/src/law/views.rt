@@ -9,6 +9,7 @@ ghost use Rattle.seize_views.specs.Views.Promises.{OwnAreMade, OwnAreTaken, OwnA
 ghost use Rattle.seize_views.specs.Views.Values.{ValuesAreFound};
 ghost use Rattle.seize_views.specs.Views.Stacking.{WaysBegin, JoiningAreMade, LinksAreWritten, JoiningAreTaken, JoiningArePut, JoiningAreShown};
 ghost use Rattle.seize_views.specs.Views.Stacking.{ChainsAreSeen, LinksAreSeen, LinksAreCopied};
+ghost use Rattle.seize_views.specs.Views.Deferring.{TakingsBegin, BlocksAreTakenOut, PartedAreShown, PartedAreCut, PartedAreDeferred, DeferralsGoOn, DeferralsEnd};
 
 use seize::rows::Defers;
 
@@ -62,6 +63,18 @@ pub fn chains_are_kept<T: Defers>()
     ensures seen { ChainsAreSeen T T.defers }
     ensures linked { LinksAreSeen T T.defers }
     ensures copied { LinksAreCopied T T.defers }
+{}
+
+/// Within a section that holds a block another one may be taken out of a root, and put behind the first one, if that has a list of further values, and the
+/// other one has none; or unlinked, and be retired.
+pub fn blocks_are_deferred<T: Defers>()
+    ensures begin { TakingsBegin T T.defers }
+    ensures taken { BlocksAreTakenOut T T.defers }
+    ensures shown { PartedAreShown T T.defers }
+    ensures cut { PartedAreCut T T.defers }
+    ensures put { PartedAreDeferred T T.defers }
+    ensures on { DeferralsGoOn T T.defers }
+    ensures end { DeferralsEnd T T.defers }
 {}
 
 /// Between any two steps no value is lost: some seat has its block in its hand, or a root names it, or a chain has it, or words lead to it from a slot, from what a seat has at

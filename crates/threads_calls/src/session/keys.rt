@@ -4,7 +4,7 @@ ghost use Rattle.std.specs.Fn.{FnOnceReturns};
 ghost use Rattle.threads_callers.specs.Given.StepsAsking.{HasAsked, MakingSays, MayTest, TestSays};
 ghost use Rattle.threads_callers.specs.Given.ErrandsCalling.{is_put as puts, outcome_of, pair_there};
 ghost use Rattle.threads_callers.specs.Given.ErrandsLooking.{HasRun, found_of};
-ghost use Rattle.threads_calls.specs.Answers.{CameBack, HasOneThere, HasRemoved, HasTakenOut, HasTried, has_stored, is_removed as removes};
+ghost use Rattle.threads_calls.specs.Answers.{CameBack, HasOneThere, HasRemoved, HasTakenOut, HasTried, has_stored, removed_by};
 ghost use Rattle.threads_calls.specs.Shown.{Shows};
 ghost use Rattle.threads_callers.specs.Given.ActsActs.{ContainsKey, Remove, RemoveIf, TryToInsert, TryToInsertWith};
 ghost use Rattle.papaya_raw.specs.declared.machines.progress.Answer.{Answer as AnAnswer};
@@ -19,7 +19,7 @@ use seize_words::{Fault, Refused};
 use std::hash::Hash;
 use std::sync::Wait;
 use threads_callers::{
-    Attempt, Form, Found, Ran, came_of, is_put, is_removed, refused, removed, there, told_of,
+    Attempt, Form, Found, Ran, came_of, is_put, refused, removed, there, told_of,
 };
 
 impl<'a, K: Eq + Hash, V, S: Hashes<K>> SessionBase<'a, K, V, S> {
@@ -134,19 +134,21 @@ impl<'a, K: Eq + Hash + Drop, V: Drop, S: Hashes<K>> SessionBase<'a, K, V, S> {
         }
     }
 
-    /// Removes the pair of a key within the section of its slot, if the test says yes of it, and answers whether it has. The test is called again where another pair of the key
-    /// has taken the place of the first. The faults are `Memory` and `Capacity`: no pair was removed then.
+    /// Removes the pair of a key within the section of its slot, if the test says yes of it, and answers with that, if it has: it is there until the session takes its next step.
+    /// The test is called again where another pair of the key has taken the place of the first. The faults are `Memory` and `Capacity`: no pair was removed then.
     pub fn remove_if<R: Wait, Q: Form<K, S>, F: Fn(&K, &V) -> bool>(
         &mut self,
         rt: &R,
         key: &Q,
         test: F,
-    ) -> Result<bool, Fault>
+    ) -> Result<Option<Found>, Fault>
         requires inside { self.old.caller.seat.view.slot ≡ Inside self.old.slot Nothing }
         requires callable { F.IsAlwaysCallable test }
         ensures inside { self.new.caller.seat.view.slot ≡ Inside self.new.slot Nothing }
         ensures slot { self.new.slot ≡ self.old.slot }
-        ensures removed { IfOk result (λ removed. (answer : AnAnswer) × HasRun K.eq S.hash (RemoveIf (Q.stands_for key.now)) (outcome_of (Ok answer)) self.old.caller.seat.view self.new.caller.seat.view × (removed ≡ removes answer)) }
+        ensures removed { IfOk result (λ taken. (answer : AnAnswer) × HasRun K.eq S.hash (RemoveIf (Q.stands_for key.now)) (outcome_of (Ok answer)) self.old.caller.seat.view self.new.caller.seat.view
+            × (removed_by answer ≡ option_map (λ found. found.word) taken)) }
+        ensures shown { IfOk result (λ taken. IfSome taken (λ found. Shows self.new.caller found.word)) }
         ensures refused { IfErr result (λ fault. HasRun K.eq S.hash (RemoveIf (Q.stands_for key.now)) (outcome_of (Err fault)) self.old.caller.seat.view self.new.caller.seat.view) }
         ensures asked { HasAsked K.eq S.hash (TestSays (MayTest F.Fn test)) (RemoveIf (Q.stands_for key.now)) self.old.caller.seat.view self.new.caller.seat.view }
         ensures map { self.new.caller.seat.view.map ≡ self.old.caller.seat.view.map }
@@ -158,7 +160,7 @@ impl<'a, K: Eq + Hash + Drop, V: Drop, S: Hashes<K>> SessionBase<'a, K, V, S> {
             .caller
             .removes_if(rt, self.hasher, setting, hash, key, &test);
         match told_of(ran) {
-            Ok(answer) => Ok(is_removed(&answer)),
+            Ok(told) => Ok(removed(&told)),
             Err(fault) => Err(fault),
         }
     }

@@ -16,10 +16,11 @@ use Rattle.seize_model.proofs.Alone.Histories.Reached.{Reached}
 use Rattle.seize_seats.specs.Seats.Errands.{IsUnlent}
 use Rattle.seize_seats.specs.Seats.State.{State, view_of}
 use Rattle.seize_views.specs.Views.Rows.{row_of, use_of, used_for}
+use Rattle.seize_views.specs.declared.view.Deferral.TheVariants.{Puts}
 use Rattle.seize_views.specs.declared.view.Fixed.{Fixed}
 use Rattle.seize_views.specs.declared.view.SlotView.{SlotView}
 use Rattle.seize_views.specs.declared.view.SlotView.TheVariants as slot_view
-use Rattle.seize_views.specs.declared.view.Why.TheVariants.{Retiring, Ending}
+use Rattle.seize_views.specs.declared.view.Why.TheVariants.{Retiring}
 use Rattle.threads_rule.specs.Views.Rule.{MapsWorld, DoesSo, AreSo, Holds, LeansOn, Leans, section_of}
 use Rattle.threads_rule.specs.declared.view.Map.{Map}
 use Rattle.threads_rule.specs.declared.view.View.{View}
@@ -53,22 +54,8 @@ no_rest (Frees c) sh e = cc e
 row_on_slot : {T : Type 0} (k : SlotView T) (t : ℕ) → works_on (row_of k) ≡ t + 1 → shares (row_of k) ≡ true → (b : Use) × (use_of k ≡ Some (t, b))
 row_on_slot (slot_view.Settles c (Retiring way) seen left) t on sh =
     let is : c.slot ≡ t = omega (arith, on) in (used_for (Retiring way), ap (λ (a : ℕ). Some (a, used_for (Retiring way))) is)
-row_on_slot (slot_view.Settles c (Ending size way) seen left) t on sh = absurd (cc sh)
-row_on_slot slot_view.Rests t on sh = absurd (cc sh)
-row_on_slot (slot_view.Registers c) t on sh = absurd (cc sh)
-row_on_slot (slot_view.Outside s) t on sh = absurd (cc sh)
-row_on_slot (slot_view.Owes s b) t on sh = absurd (cc sh)
-row_on_slot (slot_view.Enters s) t on sh = absurd (cc sh)
-row_on_slot (slot_view.Inside s has) t on sh = absurd (cc sh)
-row_on_slot (slot_view.Leaves s size way) t on sh = absurd (cc sh)
-row_on_slot (slot_view.Left s size way) t on sh = absurd (cc sh)
-row_on_slot (slot_view.Frees s) t on sh = absurd (cc sh)
-row_on_slot (slot_view.Brings b x) t on sh = absurd (cc sh)
-row_on_slot (slot_view.Bears b) t on sh = absurd (cc sh)
-row_on_slot (slot_view.Watches s b) t on sh = absurd (cc sh)
-row_on_slot (slot_view.Under n s b) t on sh = absurd (cc sh)
-row_on_slot (slot_view.Joins block) t on sh = absurd (cc sh)
-row_on_slot (slot_view.Busy s) t on sh = absurd (cc sh)
+row_on_slot (slot_view.Defers s (Puts a c)) t on sh = let is : s ≡ t = omega (arith, on) in (Inside 1, ap (λ (b : ℕ). Some (b, Inside 1)) is)
+row_on_slot _ t on sh = absurd (cc sh)
 
 same_here : (a : ℕ) (l : List ℕ) → (count a (a ∷ l) ≡ 0) → ⊥
 same_here a l e = grind (arith, e)

@@ -86,6 +86,7 @@ module _ {K V S : Type 0} (fixed : Fixed) (j : ℕ) (x : View K V S) where
     bound_on (slot_view.Watches t d) b = tt
     bound_on (slot_view.Under n t d) b = tt
     bound_on (slot_view.Joins block) b = tt
+    bound_on (slot_view.Defers t d) b = tt
     bound_on (slot_view.Busy t) b = tt
 
     pub knows_on : KnowsRow fixed scene j x.slot → KnowsRow fixed n j x.slot

@@ -86,6 +86,7 @@ own_section (slot_view.Bears b) t is = absurd (cc is)
 own_section (slot_view.Watches a b) t is = absurd (cc is)
 own_section (slot_view.Under n a b) t is = absurd (cc is)
 own_section (slot_view.Joins block) t is = absurd (cc is)
+own_section (slot_view.Defers a c) t is = absurd (cc is)
 own_section (slot_view.Busy a) t is = absurd (cc is)
 
 -- who has calls under way within a section is the caller of that slot

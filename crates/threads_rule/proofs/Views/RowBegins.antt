@@ -91,14 +91,6 @@ begins_one defers size i (Defer' s b t) w n v is x y = absurd is
 -- who knows of no block has none in its hand
 plain_hand : {T : Type 0} (v : SlotView T) → IsPlain v → hand_of v ≡ None
 plain_hand (slot_view.Inside t NoBlock) is = refl
-plain_hand (slot_view.Inside t has) is = absurd is
-plain_hand (slot_view.Owes t b) is = absurd is
-plain_hand (slot_view.Brings b x) is = absurd is
-plain_hand (slot_view.Bears b) is = absurd is
-plain_hand (slot_view.Watches t b) is = absurd is
-plain_hand (slot_view.Under n t b) is = absurd is
-plain_hand (slot_view.Joins block) is = absurd is
-plain_hand (slot_view.Busy t) is = absurd is
 plain_hand slot_view.Rests is = refl
 plain_hand (slot_view.Registers c) is = refl
 plain_hand (slot_view.Outside t) is = refl
@@ -107,6 +99,7 @@ plain_hand (slot_view.Settles c why seen left) is = refl
 plain_hand (slot_view.Leaves t size way) is = refl
 plain_hand (slot_view.Left t size way) is = refl
 plain_hand (slot_view.Frees t) is = refl
+plain_hand _ is = absurd is
 
 module _ {T : Type 0} (n : World T) where
   just_alike : (o : Option (ℕ × Use)) → IsUsedLike IsJustSo n o → IsUsedSo n o

@@ -58,6 +58,7 @@ rest_bounded fixed n c (slot_view.Bears d) e = tt
 rest_bounded fixed n c (slot_view.Watches t d) e = tt
 rest_bounded fixed n c (slot_view.Under k t d) e = tt
 rest_bounded fixed n c (slot_view.Joins block) e = tt
+rest_bounded fixed n c (slot_view.Defers t d) e = tt
 rest_bounded fixed n c (slot_view.Busy t) e = tt
 
 module _ {K V S : Type 0} (same : K → K → Bool) (hash : S → K → ℕ) (fixed : Fixed) (s : State (Node K V) (View K V S) (MapsWorld K V S)) (h : Holds same hash fixed s)

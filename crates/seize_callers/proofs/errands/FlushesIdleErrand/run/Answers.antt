@@ -5,5 +5,4 @@ use Rattle.seize_callers.proofs.errands.FlushesIdleErrand.run.Goals as goal
 -- the seat is the one that was lent
 pub returns : goal.returns
 returns g c =
-    let s = kept_same _ _ _ _ _ _ _ _ c.flush_idle.ensures.same in
-    let name = s.1 in let id = s.2 in let away = s.3 in search (rules, name, id, away)
+    let s = kept_same _ _ _ _ _ _ _ _ c.flush_idle.ensures.same in let name = s.1 in let id = s.2 in let away = s.3 in search (rules, name, id, away)

@@ -42,8 +42,7 @@ settles-requires g c =
 
 pub part-requires-clause-may : goal.part-requires-clause-may
 part-requires-clause-may g c =
-    let x = c.args.self.now in let size = x.blocks.now.words.fixed.batch_size in let t = c.requires.taken in let n = c.settles.new.self in
-    let k =
+    let x = c.args.self.now in let size = x.blocks.now.words.fixed.batch_size in let t = c.requires.taken in let n = c.settles.new.self in let k =
     c.settles.ensures.settling (task_of (Ending size t.0) (g.C.Content.notes x.seat.now.view))
     (begins g (goal.at.part-requires-clause-may g c).After-count_down-row t.0 t.1 t.2) in
     may_turn g.C.Rule.holds g.C.Rule.keeps g.C.Content.notes g.C.Content.beside g.C.Rule.leans c.goes_on.ensures.turn n.blocks.now.words.fixed n.seat.now.id n.seat.now.view
@@ -54,8 +53,7 @@ part-requires-clause-errand g c = λ home rests w so. absurd (c.settles.new.self
 
 pub part-requires-clause-leans : goal.part-requires-clause-leans
 part-requires-clause-leans g c =
-    let x = c.args.self.now in let size = x.blocks.now.words.fixed.batch_size in let t = c.requires.taken in let n = c.settles.new.self in
-    let k =
+    let x = c.args.self.now in let size = x.blocks.now.words.fixed.batch_size in let t = c.requires.taken in let n = c.settles.new.self in let k =
     c.settles.ensures.settling (task_of (Ending size t.0) (g.C.Content.notes x.seat.now.view))
     (begins g (goal.at.part-requires-clause-leans g c).After-count_down-row t.0 t.1 t.2) in
     leans_turn g.C.Rule.holds g.C.Rule.keeps g.C.Content.notes g.C.Content.beside g.C.Rule.leans c.goes_on.ensures.leans n.blocks.now.words.fixed n.seat.now.away n.seat.now.view
@@ -63,16 +61,14 @@ part-requires-clause-leans g c =
 
 pub returns-clause-left : goal.returns-clause-left
 returns-clause-left g c = λ way left is.
-    let x = c.args.self.now in let size = x.blocks.now.words.fixed.batch_size in
-    let row = (goal.at.returns-clause-left g c).After-count_down-row in
+    let x = c.args.self.now in let size = x.blocks.now.words.fixed.batch_size in let row = (goal.at.returns-clause-left g c).After-count_down-row in
     let k = c.settles.ensures.settling (task_of (Ending size way) (g.C.Content.notes x.seat.now.view)) (begins g row way left is) in
     c.part.ensures.goes.0 ∙ ap (ended c.settles.new.self.blocks.now.words.fixed) (ap known_by k.2)
     ∙ ap (λ (t : ℕ). Left t size way) (c.settles.ensures.slot ∙ ap (λ (r : Settle). r.slot) (row_is g row))
 
 pub returns-clause-notes : goal.returns-clause-notes
 returns-clause-notes g c =
-    let x = c.args.self.now in let size = x.blocks.now.words.fixed.batch_size in let t = c.requires.taken in
-    let k =
+    let x = c.args.self.now in let size = x.blocks.now.words.fixed.batch_size in let t = c.requires.taken in let k =
     c.settles.ensures.settling (task_of (Ending size t.0) (g.C.Content.notes x.seat.now.view))
     (begins g (goal.at.returns-clause-notes g c).After-count_down-row t.0 t.1 t.2) in
     (c.part.ensures.goes.1 ∙ ap (λ v. v.did) k.2, c.part.ensures.goes.2 ∙ ap (λ v. v.began) k.2, c.part.ensures.goes.3 ∙ ap (λ v. v.guards) k.2)

@@ -37,8 +37,7 @@ taken : (g : given.Over) (c : After-swap-head g) → (left : ℕ)
     × ((g.C.Content.notes c.swap-head.new.self.seat.now.view).knows
     ≡ list_taken c.args.slot c.swap-head.new.self.blocks.now.words.fixed.batch_size Idle c.swap-head.result left)
 taken g c =
-    let fixed = c.args.self.now.blocks.now.words.fixed in let i = c.requires.inside in
-    let told =
+    let fixed = c.args.self.now.blocks.now.words.fixed in let i = c.requires.inside in let told =
     list_told g.T.Defers.defers (g.C.Content.notes c.part.new.seat.view).knows (g.C.Content.notes c.swap-head.new.self.seat.now.view).knows c.args.slot
     fixed.batch_size Idle IDLE c.swap-head.result (c.part.ensures.goes.0 ∙ ap (leaving fixed) i.2 ∙ leaves_so g.row.T.Denot fixed c.args.slot i.0 i.1) c.swap-head.ensures.2.0
     in (

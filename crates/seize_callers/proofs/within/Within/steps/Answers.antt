@@ -10,8 +10,7 @@ step-requires g c =
 
 pub returns-in_default : goal.returns-in_default
 returns-in_default g c =
-    let x = c.args.self.now in let row = c.args.row.now in
-    let stepped =
+    let x = c.args.self.now in let row = c.args.row.now in let stepped =
     has_stepped g.T.Defers.defers (λ m. g.C.Content.notes m.seat.now.view) (λ m. g.C.Content.beside m.seat.now.view) (λ m. kept m.blocks m.seat.ghost_name m.seat.now.id m.seat.now.away) (λ m. IsAllowed g.C.Rule.holds g.C.Rule.keeps g.C.Content.notes g.C.Content.beside g.T.Defers.defers g.C.Rule.then m.blocks.now.words.fixed m.seat.now.id m.seat.now.view) x row in
     let k = stepped c.requires.settling.0 c.requires.settling.1 c.requires.not c.step.new.memory (c.step.new.self, c.step.result) c.step.ensures in
     record {

@@ -8,8 +8,9 @@ use Rattle.threads_callers.specs.Given.ErrandsLooking.{HasRun}
 use Rattle.map_tables.specs.declared.node.Node.TheVariants.{Pair}
 use Rattle.threads_callers.specs.Given.ViewsLooks.{shown_in}
 use Rattle.threads_callers.specs.declared.answers.Found.{Found}
-use Rattle.threads_calls.proofs.Keys.{back_by, may_insert, one_back, ran_by, shows_by}
-use Rattle.threads_calls.proofs.Named.{replaced_there, was_replaced}
+use Rattle.threads_callers.proofs.Answered.{back_by, one_back, ran_by, shows_by}
+use Rattle.threads_calls.proofs.Keys.{may_insert}
+use Rattle.threads_callers.proofs.Named.{replaced_there, was_replaced}
 use Rattle.threads_calls.proofs.session.SessionBase.insert.Goals as goal
 
 pub stores-ran-requires : goal.stores-ran-requires

@@ -3,7 +3,7 @@ use Rattle.papaya_raw.specs.CallPoints.{removing}
 use Rattle.threads_callers.specs.Given.ViewsLooks.{shown_in}
 use Rattle.threads_callers.specs.declared.answers.Found.{Found}
 use Rattle.threads_calls.proofs.Keys.{may_remove}
-use Rattle.threads_calls.proofs.Named.{removed_there, was_removed}
+use Rattle.threads_callers.proofs.Named.{removed_there, was_removed}
 use Rattle.threads_calls.proofs.session.SessionBase.remove.Goals as goal
 
 pub removes-requires : goal.removes-requires

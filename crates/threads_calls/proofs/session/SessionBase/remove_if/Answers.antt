@@ -1,7 +1,10 @@
 use Rattle.std.proofs.Common.{refl}
 use Rattle.papaya_raw.specs.CallAsks.{removing_if}
 use Rattle.threads_callers.specs.Given.StepsAsking.{MayTest, TestSays}
-use Rattle.threads_calls.proofs.Asks.{answered_by, testing, may_test}
+use Rattle.threads_callers.specs.Given.ViewsLooks.{shown_in}
+use Rattle.threads_callers.specs.declared.answers.Found.{Found}
+use Rattle.threads_calls.proofs.Asks.{answered_by, may_test, shows_asked, testing}
+use Rattle.threads_callers.proofs.Named.{removed_there}
 use Rattle.threads_calls.proofs.session.SessionBase.remove_if.Goals as goal
 
 pub removes_if-ran-requires-clause-may : goal.removes_if-ran-requires-clause-may
@@ -15,11 +18,18 @@ removes_if-ran-requires-clause-may g c =
 pub returns-in-Ok-clause-removed : goal.returns-in-Ok-clause-removed
 returns-in-Ok-clause-removed g c =
     let call = removing_if {V = g.row.V.Denot} c.setting_in-setting.result c.hash_by-hash.result (g.Q.Equivalent.stands_for c.args.key.now) in (
-      c.in-Ok.answer,
+      c.in-Ok.told,
       answered_by g.K.PartialEq.eq g.S.Hashes.hash (TestSays (MayTest g.F.Fn c.args.test)) {call = call} {made = call} c.args.self.now.caller.seat.view c.removes_if-ran.new.self.seat.view refl c.told_of.ensures c.in-Ok.is
           c.removes_if-ran.ensures.answered,
-      c.is_removed.ensures,
+      c.removed.ensures,
     )
+
+pub returns-in-Ok-clause-shown : goal.returns-in-Ok-clause-shown
+returns-in-Ok-clause-shown g c =
+    let call = removing_if {V = g.row.V.Denot} c.setting_in-setting.result c.hash_by-hash.result (g.Q.Equivalent.stands_for c.args.key.now) in let w = c.removes_if-ran.new.self.seat.view in
+    removed_there (shown_in w.held) (λ (f : Found). f.word) c.in-Ok.told
+    (shows_asked g.K.PartialEq.eq g.S.Hashes.hash (TestSays (MayTest g.F.Fn c.args.test)) {call = call} {made = call} c.args.self.now.caller.seat.view w refl c.told_of.ensures c.in-Ok.is c.removes_if-ran.ensures.answered)
+    c.removed.result c.removed.ensures
 
 pub returns-clause-refused : goal.returns-clause-refused
 returns-clause-refused g c =

@@ -7,8 +7,9 @@ use Rattle.threads_callers.specs.Given.ErrandsCalling.{outcome_of}
 use Rattle.threads_callers.specs.Given.ErrandsLooking.{HasRun}
 use Rattle.map_tables.specs.declared.node.Node.TheVariants.{Pair}
 use Rattle.threads_callers.specs.Given.ViewsLooks.{shown_in}
-use Rattle.threads_calls.proofs.Keys.{back_by, came_back, may_try, one_back, ran_by, shows_by}
-use Rattle.threads_calls.proofs.Named.{there_shown}
+use Rattle.threads_callers.proofs.Answered.{back_by, came_back, one_back, ran_by, shows_by}
+use Rattle.threads_calls.proofs.Keys.{may_try}
+use Rattle.threads_callers.proofs.Named.{there_shown}
 use Rattle.threads_calls.proofs.session.SessionBase.try_insert.Goals as goal
 
 pub stores-ran-requires : goal.stores-ran-requires

@@ -4,7 +4,7 @@ use Rattle.threads_callers.specs.Given.StepsAsking.{MakingSays}
 use Rattle.threads_callers.specs.Given.ViewsLooks.{shown_in}
 use Rattle.threads_callers.proofs.Given.StepsAnswering.{answers_one}
 use Rattle.threads_calls.proofs.Asks.{answered_by, asked_by, first, may_make, shows_asked}
-use Rattle.threads_calls.proofs.Named.{there_shown}
+use Rattle.threads_callers.proofs.Named.{there_shown}
 use Rattle.threads_calls.proofs.session.SessionBase.try_insert_with.Goals as goal
 
 pub makes_pair-ran-requires-clause-may : goal.makes_pair-ran-requires-clause-may

@@ -33,16 +33,14 @@ returns-clause-rests g c =
 
 pub meet-requires-clause-errand : goal.meet-requires-clause-errand
 meet-requires-clause-errand g c = λ p q so.
-    let x = c.args.self.now in let taker = c.args.taker.now in let fixed = x.blocks.now.words.fixed in
-    let k =
+    let x = c.args.self.now in let taker = c.args.taker.now in let fixed = x.blocks.now.words.fixed in let k =
     handed fixed c.args._block taker.view.knows p.knows q.knows c.requires.takes
     (subst (λ v. Hands fixed v taker.view.knows p.knows q.knows) (bears c.args._block x.seat.view.knows c.requires.bears) so.0) in
     (λ home rests. k.0, λ home rests. k.1)
 
 pub meet-requires-clause-leans : goal.meet-requires-clause-leans
 meet-requires-clause-leans g c = λ p q so.
-    let x = c.args.self.now in let taker = c.args.taker.now in let fixed = x.blocks.now.words.fixed in
-    let k =
+    let x = c.args.self.now in let taker = c.args.taker.now in let fixed = x.blocks.now.words.fixed in let k =
     handed fixed c.args._block taker.view.knows p.knows q.knows c.requires.takes
     (subst (λ v. Hands fixed v taker.view.knows p.knows q.knows) (bears c.args._block x.seat.view.knows c.requires.bears) so.0) in
     (λ n leans. absurd (upright p n k.0 leans), λ n leans. absurd (upright q n k.1 leans))

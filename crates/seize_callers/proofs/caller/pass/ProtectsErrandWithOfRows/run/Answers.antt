@@ -82,8 +82,7 @@ turn-requires-clause-leans g c = λ w so n leans. absurd (subst (λ (x : SlotVie
 
 pub returns : goal.returns
 returns g c =
-    let asks = c.requires.1.3 in let guard = c.args.self.guard.now in
-    let block = block_in c.finds-word.result in (
+    let asks = c.requires.1.3 in let guard = c.args.self.guard.now in let block = block_in c.finds-word.result in (
       c.turn.ensures.same.0 ∙ c.finds-word.ensures.same.0 ∙ c.learn.ensures.same.0,
       c.turn.ensures.same.1 ∙ c.finds-word.ensures.same.1 ∙ c.learn.ensures.same.1,
       c.turn.ensures.errand ∙ c.finds-word.ensures.same.2 ∙ c.learn.ensures.errand,

@@ -6,7 +6,6 @@ use Rattle.seize_callers.proofs.caller.roots.Caller+T.make_beside.Goals as goal
 
 pub make-requires-clause-may : goal.make-requires-clause-may
 make-requires-clause-may g c =
-    let x = c.args.self.now in
-    let defers = g.T.Defers.defers in
+    let x = c.args.self.now in let defers = g.T.Defers.defers in
     may_make_beside defers x.blocks.now.words.fixed x.seat.id x.seat.view c.args._slot c.args._seen c.requires.inside c.args.value c.in-Some.words
     (subst (λ (o : Option ℕ). IfSome o (λ words. HasListWord defers (defers c.args.value) words)) c.in-Some.is c.words_for.ensures.words)

@@ -1,7 +1,0 @@
-use Rattle.std.specs.Prelude.{None}
-use Rattle.seize_views.proofs.Views.Notes.{rules_start}
-use Rattle.guard_bench.specs.declared.turns.Number.{Number}
-use Rattle.guard_bench.proofs.timed.Goals as goal
-
-pub open-requires-clause-starts : goal.open-requires-clause-starts
-open-requires-clause-starts g c = rules_start Number (λ _. None) (record { batch_size = 32; roots = 4; chains = 0 })
