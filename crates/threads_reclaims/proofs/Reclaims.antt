@@ -8,5 +8,4 @@ pub mod Begun
 pub mod Taking
 pub mod Seeks
 pub mod Steps
-pub mod Back
 pub mod Laws

@@ -31,7 +31,7 @@ use Rattle.threads_reclaims.proofs.Reclaims.Inside.{set_but, one_on, at_inside, 
 use Rattle.seize_acts.specs.Acts.Stays.{how_many, is_end_of_owner}
 use Rattle.threads_reclaims.proofs.Reclaims.More.{IsAside, further, led_further, still_so}
 
-some_none : {A : Type 0} (o : Option A) → IsSome o → is_none o ≡ Bool.false
+pub some_none : {A : Type 0} (o : Option A) → IsSome o → is_none o ≡ Bool.false
 some_none None is = absurd (cc is)
 some_none (Some x) is = refl
 

@@ -79,7 +79,7 @@ NotDone {T} {R} rest = (shown : ℕ → Option T) (end : R × Settled T) → End
 
 module _ {T R : Type 0} where
   goes_now : (r : R × Settled T) → (r.1 ≡ settled.Done → ⊥) → NotDone (Now r)
-  goes_now r no shown end e done = no (sym (ap (λ (x : R × Settled T). x.1) e) ∙ done)
+  goes_now r never shown end e done = never (sym (ap (λ (x : R × Settled T). x.1) e) ∙ done)
 
   either : (b : Bool) (x y : Then T (R × Settled T)) → NotDone x → NotDone y → NotDone (if b then x else y)
   either true x y p q = p
@@ -101,7 +101,7 @@ module _ {T : Type 0} (defers : T → Option ℕ) (left_over : T → Bool) where
   abbrev End : Type 0
   End = ReclaimAll × Settled T
 
-  goes : (c : ReclaimAll) → NotDone {T} (Now (c, settled.Goes))
+  goes : (c : ReclaimAll) → NotDone {T = T} (Now (c, settled.Goes))
   goes c = goes_now (c, settled.Goes) (λ e. cc e)
 
   head_not : (c : ReclaimAll) (s : ℕ) (o : Out T) → NotDone (head_read c s o)
@@ -184,48 +184,49 @@ module _ {K : Type 0} (V : Type 0) (same : K → K → Bool) (batch_size roots :
       let k = steps_so s.world.memory (plan c) m2 (c2, told) may st in
       sym (any_grant s.world.memory k.0 (plan c) (all_sure deferred_word was_left c c.stands)) ∙ k.1
 
+  -- one more than where its step leads
+  module _ (s : Scene K V) (i : ℕ) (lists : ℕ → List ℕ) (c : ReclaimAll) (all : All s i lists c)
+      (again : (m2 : Mem (Node K V)) (c2 : ReclaimAll) (told : Settled (Node K V)) → Steps Took value_at s.world.memory (plan c) m2 (c2, told) → (told ≡ settled.Done → ⊥)
+      → (s2 : Scene K V) (lists2 : ℕ → List ℕ) → All s2 i lists2 c2 → s2.world.memory ≡ m2 → IsCounted m2 c2) where
+    further : (p : Outcome) → stepped s.world.memory None (plan c) ≡ Some p → (c.stands ≡ at.Over → ⊥) → IsCounted p.0 p.1.0
+    further p some on =
+        let st : Steps Took value_at s.world.memory (plan c) p.0 p.1 = was_stepped s.world.memory None (plan c) p some in
+        let a = (reclaiming_is_by_acts V same batch_size roots slot word s i lists c all).2 None (ap is_none some) in
+        let d = a.4 in
+        let same_end : ◌≡◌ {A = Outcome} (d.memory, (a.3, a.0)) p = same_some (d.memory, (a.3, a.0)) p (sym d.computed ∙ some) in
+        let end_is : a.3 ≡ p.1.0 = ap (λ (x : Outcome). x.1.0) same_end in
+        again p.0 p.1.0 p.1.1 st (not_done deferred_word was_left s.world.memory p.0 p.1 c c.stands on st) a.1 a.2 (subst (λ (x : ReclaimAll). All a.1 i a.2 x) end_is a.5)
+        (ap (λ (x : Scene K V). x.world.memory) d.comes ∙ d.did.memory ∙ ap (λ (x : Outcome). x.0) same_end)
+
+    one_more : (o : Option Outcome) → stepped s.world.memory None (plan c) ≡ o → (c.stands ≡ at.Over → ⊥) → IsCounted s.world.memory c
+    one_more None none on = (1, λ is m2 c2 told st. absurd (let k = comes_to s i lists c all m2 c2 told st in cc (none, k)))
+    one_more (Some p) some on = let k = further p some on in (
+      suc k.0,
+      λ is m2 c2 told st.
+          subst (λ (r : Outcome). EndsIn k.0 r.0 r.1.0) (same_some p (m2, (c2, told)) (sym some ∙ comes_to s i lists c all m2 c2 told st)) k.1,
+    )
+
+    next : (c.stands ≡ at.Over → ⊥) → IsCounted s.world.memory c
+    next on = one_more (stepped s.world.memory None (plan c)) refl on
+
+    at_point : (q : Reclaiming) → c.stands ≡ q → IsCounted s.world.memory c
+    at_point at.Over is = (0, λ never. never is)
+    at_point (at.Heads a) is = next (λ over. cc (is, over))
+    at_point (at.Retakes a) is = next (λ over. cc (is, over))
+    at_point (at.Leaves a l) is = next (λ over. cc (is, over))
+    at_point (at.Batches a) is = next (λ over. cc (is, over))
+    at_point (at.Flushes a l) is = next (λ over. cc (is, over))
+    at_point (at.Frees a) is = next (λ over. cc (is, over))
+    at_point (at.Roots root) is = next (λ over. cc (is, over))
+    at_point (at.Nexts root b) is = next (λ over. cc (is, over))
+    at_point (at.Takes root b n) is = next (λ over. cc (is, over))
+    at_point (at.Empties root) is = next (λ over. cc (is, over))
+    at_point (at.Unuses root) is = next (λ over. cc (is, over))
+
   counted : (m : Mem (Node K V)) (c : ReclaimAll) → Terminates m c → (s : Scene K V) (i : ℕ) (lists : ℕ → List ℕ) → All s i lists c → s.world.memory ≡ m → IsCounted m c
-  counted m c (Comes _ _ more) s i lists all e = subst (λ (x : Mem (Node K V)). IsCounted x c) e (by (stepped s.world.memory None (plan c)) refl)
-    where
-      by : (o : Option Outcome) → stepped s.world.memory None (plan c) ≡ o → IsCounted s.world.memory c
-      by None none = (1, λ on m2 c2 told st. absurd (let k = comes_to s i lists c all m2 c2 told st in cc (none, k)))
-      by (Some p) some = at_point c.stands refl
-        where
-          st : Steps Took value_at s.world.memory (plan c) p.0 p.1
-          st = was_stepped s.world.memory None (plan c) p some
-
-          further : (c.stands ≡ at.Over → ⊥) → IsCounted p.0 p.1.0
-          further on =
-              let a = (reclaiming_is_by_acts V same batch_size roots slot word s i lists c all).2 None (ap is_none some) in
-              let d = a.4 in
-              let same_end : ◌≡◌ {A = Outcome} (d.memory, (a.3, a.0)) p = same_some (d.memory, (a.3, a.0)) p (sym d.computed ∙ some) in
-              let end_is : a.3 ≡ p.1.0 = ap (λ (x : Outcome). x.1.0) same_end in
-              counted p.0 p.1.0
-              (more p.0 p.1.0 p.1.1 (subst (λ (x : Mem (Node K V)). Steps Took value_at x (plan c) p.0 p.1) e st)
-              (not_done deferred_word was_left s.world.memory p.0 p.1 c c.stands on st)) a.1 i a.2
-              (subst (λ (x : ReclaimAll). All a.1 i a.2 x) end_is a.5)
-              (ap (λ (x : Scene K V). x.world.memory) d.comes ∙ d.did.memory ∙ ap (λ (x : Outcome). x.0) same_end)
-
-          next : (c.stands ≡ at.Over → ⊥) → IsCounted s.world.memory c
-          next on = let k = further on in (
-            suc k.0,
-            λ is m2 c2 told st2.
-                subst (λ (r : Outcome). EndsIn k.0 r.0 r.1.0) (same_some p (m2, (c2, told)) (sym some ∙ comes_to s i lists c all m2 c2 told st2)) k.1,
-          )
-
-          at_point : (q : Reclaiming) → c.stands ≡ q → IsCounted s.world.memory c
-          at_point at.Over is = (0, λ no. no is)
-          at_point (at.Heads s) is = next (λ over. cc (is, over))
-          at_point (at.Retakes s) is = next (λ over. cc (is, over))
-          at_point (at.Leaves s l) is = next (λ over. cc (is, over))
-          at_point (at.Batches s) is = next (λ over. cc (is, over))
-          at_point (at.Flushes s l) is = next (λ over. cc (is, over))
-          at_point (at.Frees s) is = next (λ over. cc (is, over))
-          at_point (at.Roots root) is = next (λ over. cc (is, over))
-          at_point (at.Nexts root b) is = next (λ over. cc (is, over))
-          at_point (at.Takes root b n) is = next (λ over. cc (is, over))
-          at_point (at.Empties root) is = next (λ over. cc (is, over))
-          at_point (at.Unuses root) is = next (λ over. cc (is, over))
+  counted m c (Comes _ _ more) s i lists all e =
+      subst (λ (x : Mem (Node K V)). IsCounted x c) e (at_point s i lists c all (λ m2 c2 told st goes s2 lists2 all2 e2. counted m2 c2
+      (more m2 c2 told (subst (λ (x : Mem (Node K V)). Steps Took value_at x (plan c) m2 (c2, told)) e st) goes) s2 i lists2 all2 e2) c.stands refl)
 
   -- IT ENDS WITHIN A NUMBER OF STEPS
   pub ends_in : (s : Scene K V) (i : ℕ) (lists : ℕ → List ℕ) (c : ReclaimAll) → All s i lists c → (k : ℕ) × EndsIn k s.world.memory c

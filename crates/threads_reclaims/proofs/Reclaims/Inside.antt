@@ -29,21 +29,21 @@ set_but {A} P us id was x at_id one others i u at = by (cases_eq i id)
         subst (λ (y : A). P i y) (same_some x u (sym here ∙ at)) (subst (λ (k : ℕ). P k x) (sym e) one)
     by (inr ne) = others i u ne (sym (elsewhere us id i x ne) ∙ at)
 
-module _ {K V S : Type 0} where
-  abbrev St : Type 0
-  St = State (Node K V) (Sole K V S) (MapsWorld K V S)
+abbrev St : (K V S : Type 0) → Type 0
+St K V S = State (Node K V) (Sole K V S) (MapsWorld K V S)
 
-  pub at_inside : (s : St) (j : ℕ) (v : Sole K V S) → view_of s j ≡ Some v → view_of (inside s) j ≡ Some (plainly v)
+module _ {K V S : Type 0} where
+  pub at_inside : (s : St K V S) (j : ℕ) (v : Sole K V S) → view_of s j ≡ Some v → view_of (inside s) j ≡ Some (plainly v)
   at_inside s j v e = slice_get-map plainly s.views j ∙ ap (option_map plainly) e
 
-  pub from_inside : (s : St) (j : ℕ) (u : View K V S) → view_of (inside s) j ≡ Some u → (v : Sole K V S) × (view_of s j ≡ Some v) × (plainly v ≡ u)
+  pub from_inside : (s : St K V S) (j : ℕ) (u : View K V S) → view_of (inside s) j ≡ Some u → (v : Sole K V S) × (view_of s j ≡ Some v) × (plainly v ≡ u)
   from_inside s j u e = mapped_at plainly s.views j u e
 
-  pub inside_after : (s : St) (n : Mem (Node K V)) (id : ℕ) (x : Sole K V S) (w : MapsWorld K V S) → inside (after s n id x w) ≡ after (inside s) n id (plainly x) w
+  pub inside_after : (s : St K V S) (n : Mem (Node K V)) (id : ℕ) (x : Sole K V S) (w : MapsWorld K V S) → inside (after s n id x w) ≡ after (inside s) n id (plainly x) w
   inside_after s n id x w = ap (λ (vs : List (View K V S)). record { memory = n; views = vs; world = w }) (map-set plainly s.views id x)
 
   -- the one that acts is the only one still
-  pub one_on : (s : St) (n : Mem (Node K V)) (id roots : ℕ) (a : Alone (Node K V)) (v : View K V S) (x : Sole K V S) (w : MapsWorld K V S) → view_of s id ≡ Some (Acts a roots v) → IsOne s
+  pub one_on : (s : St K V S) (n : Mem (Node K V)) (id roots : ℕ) (a : Alone (Node K V)) (v : View K V S) (x : Sole K V S) (w : MapsWorld K V S) → view_of s id ≡ Some (Acts a roots v) → IsOne s
       → IsOne (after s n id x w)
   one_on s n id roots a v x w at_id one j k r q b d y z at_j at_k = is_id j r b y at_j ∙ sym (is_id k q d z at_k)
     where

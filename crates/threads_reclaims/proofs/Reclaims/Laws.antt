@@ -5,7 +5,11 @@ use Rattle.std.proofs.lemmas.Bool.{cases_eq}
 use Rattle.std.proofs.lemmas.List.{map-set}
 use Rattle.std.proofs.lemmas.Option.{slice_get-map}
 use Rattle.core.specs.Option.{option_map}
-use Rattle.seize_words.specs.OneMemory.Mem.{Mem, value_at}
+use Rattle.seize_words.specs.OneMemory.Mem.{Mem, Took, value_at}
+use Rattle.seize_words.specs.OneMemory.Plan.{Steps}
+use Rattle.seize.specs.World.{Rests}
+use Rattle.seize.specs.declared.rows.settle.Settled.TheVariants as settled
+use Rattle.seize_views.specs.Views.Rows.{row_of}
 use Rattle.seize_words.specs.OneMemory.Op.{Op, Out}
 use Rattle.seize.specs.declared.rows.reclaim_all.ReclaimAll.{ReclaimAll}
 use Rattle.seize.specs.declared.rows.reclaim_all.Reclaiming.{Reclaiming as Point}
@@ -15,7 +19,7 @@ use Rattle.seize.specs.ReclaimAll.{plan_at}
 use Rattle.map_tables.specs.Nodes.{deferred_word, was_left}
 use Rattle.map_tables.specs.declared.node.Node.{Node}
 use Rattle.seize_seats.specs.Seats.Errands.{IsUnlent}
-use Rattle.seize_seats.specs.Seats.State.{State, view_of, Allows, Turns}
+use Rattle.seize_seats.specs.Seats.State.{State, view_of, Allows, Turns, Goes}
 use Rattle.seize_seats.proofs.Seats.Stepping.Errands.{mapped_at}
 use Rattle.seize_views.proofs.Views.Lists.{elsewhere}
 use Rattle.seize_views.specs.Views.Begun.{seeker_at}
@@ -31,19 +35,19 @@ use Rattle.seize_collector.specs.declared.alone.Alone.{Alone}
 use Rattle.seize_collector.specs.declared.alone.Alone.TheVariants.{Registers, Reclaims}
 use Rattle.threads_rule.specs.Views.Begun.{with_slot}
 use Rattle.threads_rule.specs.Views.Notes.{SeatIsQuiescent}
-use Rattle.threads_rule.specs.Views.Rule.{MapsWorld, Holds, Leans, LeansOn}
+use Rattle.threads_rule.specs.Views.Rule.{MapsWorld, Holds, KeepsFor, Leans, LeansOn}
 use Rattle.threads_rule.specs.declared.view.View.{View}
 use Rattle.threads_rule.specs.declared.view.SeatWork.{SeatWork}
+use Rattle.threads_rule.specs.declared.view.SeatWork.TheVariants.{Nothing}
 use Rattle.threads_rule.proofs.Views.Rows.{rows_turn}
 use Rattle.threads_reclaims.specs.Reclaims.Promises.{IsReclaimed, OneBegins, OneEnds, OneEmpties}
-use Rattle.threads_reclaims.specs.Reclaims.Rule.{HoldsOne, TakesAt, NobodyKeeps, IsOne, plainly, inside, seeking, one_first, kept_of, acts_of, all_in, one_told}
+use Rattle.threads_reclaims.specs.Reclaims.Rule.{HoldsOne, Reclaiming, TakesAt, NobodyKeeps, IsOne, plainly, inside, seeking, one_first, kept_of, acts_of, all_in, one_told}
 use Rattle.threads_reclaims.specs.declared.sole.Sole.{Sole}
 use Rattle.threads_reclaims.specs.declared.sole.Sole.TheVariants.{Acts, Left}
-use Rattle.threads_reclaims.proofs.Reclaims.Back.{goes_back, is_reclaimed}
 use Rattle.threads_reclaims.proofs.Reclaims.Free.{rests_so}
 use Rattle.threads_reclaims.proofs.Reclaims.Inside.{set_but}
 use Rattle.threads_reclaims.proofs.Reclaims.Seeks.{seeks_on}
-use Rattle.threads_reclaims.proofs.Reclaims.Steps.{same_there, after_op, after_turn}
+use Rattle.threads_reclaims.proofs.Reclaims.Steps.{same_there, plan, now, goes_back, is_reclaimed, after_op, after_turn}
 use Rattle.seize_words.proofs.General.{same_some}
 
 -- what it is told it knows, and what it knows of maps stays
@@ -65,7 +69,7 @@ module _ {K V S : Type 0} (same : K → K → Bool) (hash : S → K → ℕ) whe
   Hold fixed = HoldsOne same hash fixed
 
   pub one_goes_on : OneMayGoOn acts_of deferred_word was_left Hold NobodyKeeps one_told
-  one_goes_on fixed id (Left u) a op word e makes s h at_id = absurd (cc e)
+  one_goes_on fixed id (Left u) a op word e makes = absurd (cc e)
   one_goes_on fixed id (Acts b r u) a op word e makes = by b (ap (op_of_one deferred_word was_left) (same_some b a e) ∙ makes)
     where
       by : (b : Alone (Node K V)) → op_of_one deferred_word was_left b ≡ Some op → Allows (Hold fixed) NobodyKeeps id (Acts b r u) op (one_told (Acts b r u) op)
@@ -77,7 +81,7 @@ module _ {K V S : Type 0} (same : K → K → Bool) (hash : S → K → ℕ) whe
           (λ over. (let none : op_in (plan_at {T = Node K V} deferred_word was_left c c.stands) ≡ None = ap (λ (p : Point). op_in (plan_at {T = Node K V} deferred_word was_left c p)) over in cc (none, makes))) op makes
 
   pub one_turns : OneMayTurn acts_of deferred_word was_left Hold NobodyKeeps kept_of
-  one_turns fixed id (Left u) c c2 told seen left word e on plan s h at_id = absurd (cc e)
+  one_turns fixed id (Left u) c c2 told seen left word e on plan = absurd (cc e)
   one_turns fixed id (Acts b r u) c c2 told seen left word e on plan =
       subst (λ (x : Alone (Node K V)). Turns (Hold fixed) NobodyKeeps id (Acts x r u) (HasPassed acts_of deferred_word was_left kept_of (Acts x r u))) (sym (same_some b (Reclaims c seen left) e)) turns
     where
@@ -104,7 +108,7 @@ module _ {K S : Type 0} (V : Type 0) (same : K → K → Bool) (hash : S → K �
   pub one_begins : OneBegins V same hash
   one_begins fixed id v none s h at_id idle = (k.1, inl record { holds = subst (λ (vs : List (View K V S)). Holds same hash fixed record { memory = s.memory; views = vs; world = k.1 }) (sym views_are) begun; seats = seats; one = one })
     where
-      rest : (v.under ≡ None) × _ × _
+      rest : (v.under ≡ None) × (v.work ≡ Nothing) × (row_of v.slot ≡ Rests)
       rest = rests_so v (idle id v at_id)
 
       unlent : IsUnlent Leans id s
@@ -112,6 +116,8 @@ module _ {K S : Type 0} (V : Type 0) (same : K → K → Bool) (hash : S → K �
 
       seeks : SlotView (Node K V)
       seeks = slot_view.Registers (seeker_at 0 register_at.Begin)
+
+      k : Goes (Holds same hash fixed) KeepsFor s s.memory id (λ x. x ≡ with_slot v seeks v.began)
       k = rows_turn V same hash fixed id v seeks v.began rest.0 rest.1 (subst (λ (x : SlotView (Node K V)). IsNext fixed x seeks) (sym none) refl) s h at_id unlent
 
       is : k.0 ≡ seeking v
@@ -147,27 +153,45 @@ module _ {K S : Type 0} (V : Type 0) (same : K → K → Bool) (hash : S → K �
       one : IsOne record { memory = s.memory; views = slice_set (map Left s.views) id (one_first fixed v); world = k.1 }
       one i j r q a b x y at_i at_j = is_id i r a x at_i ∙ sym (is_id j q b y at_j)
 
+  -- its last step, where its machine is over
+  module _ (fixed : Fixed) (word : fixed.batch_size < 2 ^ 64) (s : State (Node K V) (Sole K V S) (MapsWorld K V S)) (h : Reclaiming same hash fixed s) (id r left : ℕ) (c : ReclaimAll)
+      (seen : Option (ℕ × Node K V)) (u : View K V S) (at_id : view_of s id ≡ Some (Acts (Reclaims c seen left) r u)) (over : c.stands ≡ at.Over) where
+    abbrev m : Mem (Node K V)
+    m = h.reached.0.0.world.memory
+
+    last : Steps Took value_at m (plan same hash fixed word s h id r left c seen u at_id) m (c, settled.Done)
+    last = subst (λ (p : Point). Steps Took value_at m (plan_at deferred_word was_left c p) m (c, settled.Done)) (sym over) (refl, refl)
+
+    pub ends_so : (w : MapsWorld K V S) × Holds same hash fixed record { memory = s.memory; views = slice_set (map kept_of s.views) id (kept_of (Acts (Reclaims c seen left) r u)); world = w }
+    ends_so =
+        let here : slice_get (map kept_of s.views) id ≡ Some (kept_of (Acts (Reclaims c seen left) r u)) = slice_get-map kept_of s.views id ∙ ap (option_map kept_of) at_id in
+        let w = now same hash fixed word s h id r left c seen u at_id m c settled.Done last over refl in (
+          w,
+          subst (λ (vs : List (View K V S)). Holds same hash fixed record { memory = s.memory; views = vs; world = w })
+              (sym (same_there (map kept_of s.views) id (kept_of (Acts (Reclaims c seen left) r u)) here))
+              (subst (λ (x : Mem (Node K V)). Holds same hash fixed record { memory = x; views = map kept_of s.views; world = w }) (sym h.memory)
+              (goes_back same hash fixed word s h id r left c seen u at_id m c settled.Done last over refl)),
+        )
+
+    pub empties_so : IsReclaimed same hash fixed s.memory
+    empties_so =
+        subst (λ (x : Mem (Node K V)). IsReclaimed same hash fixed x) (sym h.memory) (is_reclaimed same hash fixed word s h id r left c seen u at_id m c settled.Done last over refl)
+
+  one_ends_by : (fixed : Fixed) (id r left : ℕ) (b : Alone (Node K V)) (u : View K V S) (c : ReclaimAll) (seen : Option (ℕ × Node K V)) → fixed.batch_size < 2 ^ 64 → b ≡ Reclaims c seen left
+      → c.stands ≡ at.Over → (s : State (Node K V) (Sole K V S) (MapsWorld K V S)) → HoldsOne same hash fixed s → view_of s id ≡ Some (Acts b r u)
+      → ((w : MapsWorld K V S) × Holds same hash fixed record { memory = s.memory; views = slice_set (map kept_of s.views) id (kept_of (Acts b r u)); world = w })
+      × IsReclaimed same hash fixed s.memory
+  one_ends_by fixed id r left b u c seen word is over s (inl h) at_id =
+      let there = at_id ∙ ap (λ (x : Alone (Node K V)). Some (Acts x r u)) is in absurd (h.seats id (Acts (Reclaims c seen left) r u) there)
+  one_ends_by fixed id r left b u c seen word is over s (inr h) at_id =
+      let there = at_id ∙ ap (λ (x : Alone (Node K V)). Some (Acts x r u)) is in
+      (ends_so fixed word s h id r left c seen u there over, empties_so fixed word s h id r left c seen u there over)
+
   pub one_ends : OneEnds V same hash
   one_ends fixed id (Left u) c seen left word e over s h at_id idle = absurd (cc e)
-  one_ends fixed id (Acts b r u) c seen left word e over s h at_id idle = by h (at_id ∙ ap (λ (x : Alone (Node K V)). Some (Acts x r u)) (same_some b (Reclaims c seen left) e))
-    where
-      Back : Type 0
-      Back = (w : MapsWorld K V S) × Holds same hash fixed record { memory = s.memory; views = slice_set (map kept_of s.views) id (kept_of (Acts b r u)); world = w }
-
-      by : HoldsOne same hash fixed s → view_of s id ≡ Some (Acts (Reclaims c seen left) r u) → Back
-      by (inl h) at_id = absurd (h.seats id (Acts (Reclaims c seen left) r u) at_id)
-      by (inr h) at_id =
-          let here : slice_get (map kept_of s.views) id ≡ Some (kept_of (Acts b r u)) = slice_get-map kept_of s.views id ∙ ap (option_map kept_of) at_id in (
-            _,
-            subst (λ (vs : List (View K V S)). Holds same hash fixed record { memory = s.memory; views = vs; world = _ }) (sym (same_there (map kept_of s.views) id (kept_of (Acts b r u)) here))
-                (goes_back same hash fixed word s h id r left c seen u at_id over),
-          )
+  one_ends fixed id (Acts b r u) c seen left word e over s h at_id idle = (one_ends_by fixed id r left b u c seen word (same_some b (Reclaims c seen left) e) over s h at_id).0
 
   pub one_empties : OneEmpties V same hash
   one_empties fixed id (Left u) c seen left m word e over was = absurd (cc e)
   one_empties fixed id (Acts b r u) c seen left m word e over (s, h, at_id, idle, is) =
-      by h (at_id ∙ ap (λ (x : Alone (Node K V)). Some (Acts x r u)) (same_some b (Reclaims c seen left) e))
-    where
-      by : HoldsOne same hash fixed s → view_of s id ≡ Some (Acts (Reclaims c seen left) r u) → IsReclaimed same hash fixed m
-      by (inl h) at_id = absurd (h.seats id (Acts (Reclaims c seen left) r u) at_id)
-      by (inr h) at_id = subst (λ (x : Mem (Node K V)). IsReclaimed same hash fixed x) (sym is) (is_reclaimed same hash fixed word s h id r left c seen u at_id over)
+      subst (λ (x : Mem (Node K V)). IsReclaimed same hash fixed x) (sym is) (one_ends_by fixed id r left b u c seen word (same_some b (Reclaims c seen left) e) over s h at_id).1

@@ -19,6 +19,8 @@ use Rattle.seize_model.proofs.Alone.Histories.NotTaken.{did}
 use Rattle.seize_model.proofs.Alone.Histories.Reached.{Reached, happens_reached}
 use Rattle.seize_model.proofs.Given.SeizeRuleRows.Effects.{IsOneStep}
 use Rattle.seize_words.specs.OneMemory.Mem.{Mem}
+use Rattle.seize_words.specs.OneMemory.Op.{Op, Store}
+use Rattle.seize_words.specs.declared.at.At.TheVariants.{Root, Used}
 
 one_step : (o : ℕ) (effects log : List Effect) → IsOneStep effects → how_many (is_end_of_owner o) (effects ++ log) ≡ how_many (is_end_of_owner o) log
 one_step o [] log one = refl
@@ -67,9 +69,9 @@ module _ {K : Type 0} (V : Type 0) (same : K → K → Bool) (batch_size roots :
     | inl its ↦ rows deferred_word batch_size i st.events w st.w2 r its st.runs
     | inr (inl left) ↦ (let h : Ran (Clears i left.0 ∷ []) = subst Ran left.1 st.runs in λ o.
         ap (λ (u : World (Node K V)). how_many (is_end_of_owner o) u.log) h.2 ∙ ap (λ (u : World (Node K V)). how_many (is_end_of_owner o) u.log) h.1.5)
-    | inr (inr (root, inl wrote)) ↦ (λ o. writes o _ (subst Ran wrote st.runs))
-    | inr (inr (root, inr wrote)) ↦ (λ o. writes o _ (subst Ran wrote st.runs))
+    | inr (inr (root, inl wrote)) ↦ (λ o. writes o (Store (Root root) 0) (subst Ran wrote st.runs))
+    | inr (inr (root, inr wrote)) ↦ (λ o. writes o (Store (Used root) 0) (subst Ran wrote st.runs))
   ]
     where
-      writes : (o : ℕ) (op : _) → Ran (Operates op ∷ []) → how_many (is_end_of_owner o) st.w2.log ≡ how_many (is_end_of_owner o) w.log
+      writes : (o : ℕ) (op : Op (Node K V)) → Ran (Operates op ∷ []) → how_many (is_end_of_owner o) st.w2.log ≡ how_many (is_end_of_owner o) w.log
       writes o op h = ap (λ (u : World (Node K V)). how_many (is_end_of_owner o) u.log) h.2 ∙ ap (λ (u : World (Node K V)). how_many (is_end_of_owner o) u.log) h.1.4

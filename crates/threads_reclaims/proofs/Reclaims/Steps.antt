@@ -34,7 +34,18 @@ use Rattle.seize_collector.specs.Renews.Rule.{HasGone, IsShown}
 use Rattle.seize_collector.specs.declared.alone.Alone.TheVariants.{Reclaims}
 use Rattle.seize_collector.proofs.Empties.Steps.{once_at}
 use Rattle.seize_collector.proofs.Renews.Looks.{may_end}
-use Rattle.threads_rule.specs.Views.Rule.{MapsWorld, IsFresh}
+use Rattle.many_acts.specs.Given.ReclaimsReclaims.{ReclaimingAt, AllIsReclaimed}
+use Rattle.std.proofs.lemmas.Option.{slice_get-map}
+use Rattle.core.specs.Option.{option_map}
+use Rattle.seize.specs.declared.rows.reclaim_all.Reclaiming.{Reclaiming as Point}
+use Rattle.seize_seats.proofs.Seats.Stepping.Errands.{mapped_at}
+use Rattle.seize_views.specs.Views.Rows.{use_of}
+use Rattle.threads_rule.specs.Views.Listed.{calls_of}
+use Rattle.threads_rule.specs.Views.Looks.{shown_in}
+use Rattle.threads_rule.specs.Views.Rule.{MapsWorld, IsFresh, Holds, Fits, AreSo, AreRuns, IsIdle, KnowsRow, runs_of, caller_at}
+use Rattle.threads_rule.specs.declared.view.BegunCall.{BegunCall}
+use Rattle.threads_rule.proofs.Views.Numbers.{first_slot}
+use Rattle.threads_reclaims.specs.Reclaims.Promises.{IsReclaimed}
 use Rattle.threads_rule.specs.declared.view.View.{View}
 use Rattle.threads_reclaims.specs.Reclaims.Rule.{EndsIn, AreAsWere, Reclaiming, ReclaimsAt, HoldsOne, NobodyKeeps, plainly, inside, one_told, acts_of, kept_of}
 use Rattle.threads_reclaims.specs.declared.sole.Sole.{Sole}
@@ -74,13 +85,13 @@ module _ {K V S : Type 0} (same : K → K → Bool) (hash : S → K → ℕ) (fi
   abbrev pub plan : Plan (Node K V) (ReclaimAll × Settled (Node K V))
   plan = reclaim_all_plan deferred_word was_left c
 
-  t : ReclaimsAt s.memory h.machine acting
+  pub t : ReclaimsAt s.memory h.machine acting
   t = h.seats id acting at_id
 
   pub here : reclaiming V same hash fixed.batch_size fixed.roots slot_of h.reached.0 ≡ Some (h.caller, c)
   here = h.here ∙ ap (λ (x : ReclaimAll). Some (h.caller, x)) (sym t.0)
 
-  goes_all : (lists : ℕ → List ℕ) × IsReclaimingAll V same fixed.batch_size fixed.roots slot_of scene h.caller lists c
+  pub goes_all : (lists : ℕ → List ℕ) × IsReclaimingAll V same fixed.batch_size fixed.roots slot_of scene h.caller lists c
   goes_all = stage_reclaims V same hash fixed.batch_size fixed.roots slot_of h.reached.0 h.caller c here
 
   pub acts : May Can Took value_at scene.world.memory plan
@@ -89,13 +100,13 @@ module _ {K V S : Type 0} (same : K → K → Bool) (hash : S → K → ℕ) (fi
 
   -- a step has led to this memory, and stands so then
   module _ (m2 : Mem (Node K V)) (c2 : ReclaimAll) (told : Settled (Node K V)) (st : Steps Took value_at scene.world.memory plan m2 (c2, told)) where
-    g : (g : Grant) × (reclaiming_steps scene g c ≡ Some (m2, (c2, told)))
+    pub g : (g : Grant) × (reclaiming_steps scene g c ≡ Some (m2, (c2, told)))
     g = acts.1 m2 (c2, told) st
 
     abbrev pub doing : Doing K V S
     doing = StepsReclaiming g.0
 
-    may : MayDo V same hash fixed.batch_size fixed.roots slot_of doing h.reached.0
+    pub may : MayDo V same hash fixed.batch_size fixed.roots slot_of doing h.reached.0
     may = (word, ap (λ (o : Option (ℕ × ReclaimAll)). is_none (then_on o (λ it. reclaiming_steps scene g.0 it.1))) here ∙ ap is_none g.1)
 
     abbrev pub next : Reached V same hash fixed.batch_size fixed.roots slot_of
@@ -147,6 +158,93 @@ module _ {K V S : Type 0} (same : K → K → Bool) (hash : S → K → ℕ) (fi
     were_then =
         still_so same hash fixed h.course s.world.doings h.reached h.led doing may (record { own = tt; numbers = λ k. refl; calls = λ seat x calls. refl }) maps_on fresh ended (view_of (inside s)) h.were
 
+    -- where it has come to its end so
+    module _ (over : c2.stands ≡ at.Over) (done : told ≡ settled.Done) where
+      abbrev pub now : MapsWorld K V S
+      now = record { doings = doings_then; scene = then_ }
+
+      abbrev Outcome2 : Type 0
+      Outcome2 = Mem (Node K V) × (ReclaimAll × Settled (Node K V))
+
+      ends : did.end ≡ settled.Done
+      ends = ap (λ (x : Outcome2). x.1.1) same_end ∙ done
+
+      stands : did.next.stands ≡ at.Over
+      stands = ap (λ (x : Outcome2). x.1.0.stands) same_end ∙ over
+
+      nobody : reclaiming V same hash fixed.batch_size fixed.roots slot_of next.0 ≡ None
+      nobody = did.goes_on ∙ ap (λ (x : Settled (Node K V)). still x (did.caller, did.next)) ends
+
+      -- nobody has anything under way
+      idle : (i : ℕ) → IsIdle then_ i
+      idle i =
+          let n = did.did.did.next in
+          let p = subst (λ (q : Point). ReclaimingAt fixed.batch_size fixed.roots did.caller did.next did.did.did.w2 did.did.did.maps2 did.did.did.lists2 q) stands n.point in
+          subst (λ (y : Scene K V). IsIdle y i) (sym did.did.comes) (record { calls = λ k. n.stand.no_calls k i; makers = n.stand.no_makers i; enders = n.stand.no_enders i; row = p.0.rests i })
+
+      pub is_reclaimed : IsReclaimed same hash fixed m2
+      is_reclaimed = record {
+        course = h.course;
+        doings = doings_then;
+        reached = next;
+        led = led_then;
+        memory = memory_is;
+        nothing = subst (λ (y : Scene K V). AllIsReclaimed fixed.roots y.world y.maps) (sym did.did.comes) (did.did.did.over ends);
+      }
+
+      abbrev back : State (Node K V) (View K V S) (MapsWorld K V S)
+      back = record { memory = m2; views = map kept_of s.views; world = now }
+
+      from : (j : ℕ) (x : View K V S) → view_of back j ≡ Some x → (y : Sole K V S) × (view_of s j ≡ Some y) × (kept_of y ≡ x)
+      from j x at = mapped_at kept_of s.views j x at
+
+      fits : (j : ℕ) (y : Sole K V S) → view_of s j ≡ Some y → Fits same hash then_ j (kept_of y)
+      fits j y at =
+          let i = idle (caller_at j 0) in record {
+            slot = first_slot;
+            does = record { row = i.row; slot = tt; calls = i.calls; makers = i.makers; enders = i.enders };
+            aside = tt;
+            map = were_then.maps j (plainly y) (at_inside s j y at);
+            only = tt;
+            held = tt;
+            pair = tt;
+            idle = λ a is ne. idle (caller_at j a);
+          }
+
+      as_before : (j : ℕ) → runs_of (view_of (inside s) j) ≡ runs_of (view_of back j)
+      as_before j = ap runs_of (slice_get-map plainly s.views j) ∙ by (slice_get s.views j) ∙ ap runs_of (sym (slice_get-map kept_of s.views j))
+        where
+          by : (o : Option (Sole K V S)) → runs_of (option_map plainly o) ≡ runs_of (option_map kept_of o)
+          by None = refl
+          by (Some y) = refl
+
+      so : AreSo same hash back then_
+      so = record {
+        memory = memory_is;
+        seats = λ j x at. (let k = from j x at in subst (λ (z : View K V S). Fits same hash then_ j z) k.2 (fits j k.0 k.1));
+        unborn = λ j a is at. idle (caller_at j a);
+        leant = λ j n a x at e. absurd (let k = from j x at in let none = ap (λ (z : View K V S). z.under) k.2 in cc (none, e));
+        apart = λ j k a b d x y e f p q. absurd (let g2 = from j x e in let none = ap (λ (z : View K V S). use_of z.slot) g2.2 in cc (none, p));
+        fresh = were_then.fresh;
+        unended = were_then.unended;
+      }
+
+      -- THE RULE OF MAPS HOLDS AGAIN
+      pub goes_back : Holds same hash fixed back
+      goes_back = record {
+        course = h.course;
+        reached = next;
+        led = led_then;
+        scene = refl;
+        nobody = nobody;
+        so = so;
+        rows = λ j x at. (let k = from j x at in subst (λ (z : View K V S). KnowsRow fixed then_ j z.slot) k.2 (record { plain = tt; short = tt; known = tt; bounded = tt }));
+        own = were_then.own;
+        calls = λ j. subst (λ (runs : List (BegunCall K V)). AreRuns same hash then_ (calls_of j doings_then next.1 []) runs) (as_before j) (were_then.calls j);
+        newest = λ j x machine at works. absurd (let k = from j x at in let none = ap (λ (z : View K V S). z.work) k.2 in cc (none, works));
+        seen = λ j x at b y shown. absurd (let k = from j x at in let none = ap (λ (z : View K V S). shown_in z.held b) k.2 in cc (none, shown));
+      }
+
   -- where it is not over
   module _ (on : c.stands ≡ at.Over → ⊥) where
     fewer : (k : ℕ) → EndsIn k scene.world.memory c → (m2 : Mem (Node K V)) (c2 : ReclaimAll) (told : Settled (Node K V)) → Steps Took value_at scene.world.memory plan m2 (c2, told)
@@ -169,17 +267,17 @@ module _ {K V S : Type 0} (same : K → K → Bool) (hash : S → K → ℕ) (fi
       goes = not_done deferred_word was_left scene.world.memory m2 (c2, told) c c.stands on st
 
       still_goes : (x : Settled (Node K V)) (it : ℕ × ReclaimAll) → (x ≡ settled.Done → ⊥) → still x it ≡ Some it
-      still_goes settled.Goes it no = refl
-      still_goes settled.Waits it no = refl
-      still_goes (settled.Gave value) it no = refl
-      still_goes settled.Done it no = absurd (no refl)
+      still_goes settled.Goes it never = refl
+      still_goes settled.Waits it never = refl
+      still_goes (settled.Gave value) it never = refl
+      still_goes settled.Done it never = absurd (never refl)
 
       here2 : reclaiming V same hash fixed.batch_size fixed.roots slot_of Next.0 ≡ Some (h.caller, c2)
       here2 =
           (did m2 c2 told st).goes_on ∙ ap (λ (x : Settled (Node K V)). still x ((did m2 c2 told st).caller, (did m2 c2 told st).next)) (ap (λ (x : Result). x.1.1) (same_end m2 c2 told st)) ∙ still_goes told ((did m2 c2 told st).caller, (did m2 c2 told st).next) goes
           ∙ ap (λ (i : ℕ). Some (i, (did m2 c2 told st).next)) (ap (λ (it : ℕ × ReclaimAll). it.0) (same_one m2 c2 told st)) ∙ ap (λ (x : Result). Some (h.caller, x.1.0)) (same_end m2 c2 told st)
 
-      less : (now : ℕ) × (now < left) × EndsIn now m2 c2
+      pub less : (now : ℕ) × (now < left) × EndsIn now m2 c2
       less = fewer left (subst (λ (m : Mem (Node K V)). EndsIn left m c) h.memory t.1) m2 c2 told st
 
       abbrev acting2 : Sole K V S
@@ -215,7 +313,7 @@ module _ {K V S : Type 0} (same : K → K → Bool) (hash : S → K → ℕ) (fi
       pub steps_to : (tells : Sole K V S → Type 0) → tells acting2 → Goes (HoldsOne same hash fixed) NobodyKeeps s m2 id tells
       steps_to tells is = (acting2, world2, inr reclaims, λ j k b u o ne ne2 at at2 none. none, is)
 
-      has_gone : HasGone told
+      pub has_gone : HasGone told
       has_gone = by told goes (subst (λ (x : Settled (Node K V)). x ≡ settled.Waits → ⊥) (ap (λ (x : Result). x.1.1) (same_end m2 c2 told st)) (waits (did m2 c2 told st).end (did m2 c2 told st).did.did.told))
         where
           waits : (x : Settled (Node K V)) → ReclaimingOutcome scene.world (did m2 c2 told st).did.did.w2 _ (did m2 c2 told st).did.did.lists2 x → x ≡ settled.Waits → ⊥
@@ -225,10 +323,10 @@ module _ {K V S : Type 0} (same : K → K → Bool) (hash : S → K → ℕ) (fi
           waits settled.Done is e = cc e
 
           by : (x : Settled (Node K V)) → (x ≡ settled.Done → ⊥) → (x ≡ settled.Waits → ⊥) → HasGone x
-          by settled.Goes no none = tt
-          by settled.Waits no none = none refl
-          by (settled.Gave value) no none = tt
-          by settled.Done no none = no refl
+          by settled.Goes never none = tt
+          by settled.Waits never none = absurd (none refl)
+          by (settled.Gave value) never none = tt
+          by settled.Done never none = absurd (never refl)
 
     made : (p : Plan (Node K V) (ReclaimAll × Settled (Node K V))) (op : Op (Node K V)) → op_in p ≡ Some op → (rest : Out (Node K V) → Then (Node K V) (ReclaimAll × Settled (Node K V))) × (p ≡ Do op rest)
     made (Turn rest) op is = absurd (cc is)

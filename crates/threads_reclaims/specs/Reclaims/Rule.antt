@@ -44,6 +44,12 @@ EndsIn {K} {V} (suc k) m c =
 abbrev pub NobodyKeeps : {A W : Type 0} → A → A → W → ℕ → Type 0
 NobodyKeeps u o w b = ⊥
 
+module _ {K V : Type 0} where
+  -- what it reclaims all by, once it has sought a slot
+  abbrev pub all_for : Alone (Node K V) → ℕ → ReclaimAll
+  all_for (Registers c size) roots = reclaiming_all size roots
+  all_for (Reclaims c seen left) roots = c
+
 module _ {K V S : Type 0} where
   -- with no slot, and on no seat leaning
   abbrev pub freed : View K V S → View K V S
@@ -62,11 +68,7 @@ module _ {K V S : Type 0} where
   acts_of (Acts a roots v) = Some a
   acts_of (Left v) = None
 
-  -- what it reclaims all by, once it has sought a slot
-  abbrev pub all_for : Alone (Node K V) → ℕ → ReclaimAll
-  all_for (Registers c size) roots = reclaiming_all size roots
-  all_for (Reclaims c seen left) roots = c
-
+  -- what it reclaims all by
   abbrev pub all_in : Sole K V S → ReclaimAll
   all_in (Acts a roots v) = all_for a roots
   all_in (Left v) = reclaiming_all 0 0
@@ -94,6 +96,12 @@ module _ {K V S : Type 0} where
   TakesAt fixed m (Acts (Reclaims c seen left) roots v) = ⊥
   TakesAt fixed m (Left v) = SeatIsQuiescent v
 
+  -- the one that acts reclaims all by this, which it looks at, and comes to its end
+  abbrev pub ReclaimsAt : Mem (Node K V) → ReclaimAll → Sole K V S → Type 0
+  ReclaimsAt m c (Acts (Registers d size) roots v) = ⊥
+  ReclaimsAt m c (Acts (Reclaims d seen left) roots v) = (d ≡ c) × EndsIn left m d × IsShown m seen
+  ReclaimsAt m c (Left v) = Unit {0}
+
   -- one alone acts
   abbrev pub IsOne : State (Node K V) (Sole K V S) (MapsWorld K V S) → Type 0
   IsOne s = (j k roots more : ℕ) (a b : Alone (Node K V)) (v u : View K V S) → view_of s j ≡ Some (Acts a roots v) → view_of s k ≡ Some (Acts b more u) → j ≡ k
@@ -111,12 +119,6 @@ module _ {K V S : Type 0} (same : K → K → Bool) (hash : S → K → ℕ) (fi
     pub unended : (o : ℕ) → how_many (is_end_of_owner o) scene.world.log ≡ 0
     pub own : AllByRecursion (IsItsOwn hash) doings
     pub calls : (j : ℕ) → AreRuns same hash scene (calls_of j doings answers []) (runs_of (views j))
-
-  -- the one that acts reclaims all by this, which it looks at, and comes to its end
-  abbrev pub ReclaimsAt : Mem (Node K V) → ReclaimAll → Sole K V S → Type 0
-  ReclaimsAt m c (Acts (Registers d size) roots v) = ⊥
-  ReclaimsAt m c (Acts (Reclaims d seen left) roots v) = (d ≡ c) × EndsIn left m d × IsShown m seen
-  ReclaimsAt m c (Left v) = Unit {0}
 
   pub record Reclaiming (s : State (Node K V) (Sole K V S) (MapsWorld K V S)) : Type 0 where
     pub course : Course V same hash fixed.batch_size fixed.roots slot_of
