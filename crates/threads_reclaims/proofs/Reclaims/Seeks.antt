@@ -158,9 +158,9 @@ module _ {K V S : Type 0} (same : K → K → Bool) (hash : S → K → ℕ) (fi
     Sought end x = HasSought acts_of all_in size acting end x
 
     by_end : (end : Register × Advance ℕ) → row.0 ≡ end → IsWell m end → g.0.slot ≡ left_by end → Gone
-    by_end (d, progress.Goes) e well slot = goes_on d slot well.2 (λ x acts all. subst (λ (y : Register × Advance ℕ). Sought y x) (sym e) (acts, all))
-    by_end (d, progress.Waits) e well slot = goes_on d slot well.2 (λ x acts all. subst (λ (y : Register × Advance ℕ). Sought y x) (sym e) (acts, all))
-    by_end (d, progress.Done a) e well slot =
+    by_end (d, progress.Goes) e so slot = goes_on d slot so.2 (λ x acts all. subst (λ (y : Register × Advance ℕ). Sought y x) (sym e) (acts, all))
+    by_end (d, progress.Waits) e so slot = goes_on d slot so.2 (λ x acts all. subst (λ (y : Register × Advance ℕ). Sought y x) (sym e) (acts, all))
+    by_end (d, progress.Done a) e so slot =
         ends (quiet (slot_view.Outside a) slot tt)
         (done_there s.memory m c short.0 row.0 a (ap (λ (y : Register × Advance ℕ). y.1) e) c.stands short.1 t.5 op out makes took row.1)
         (λ x left acts. subst (λ (y : Register × Advance ℕ). Sought y x) (sym e) (None, left, acts))

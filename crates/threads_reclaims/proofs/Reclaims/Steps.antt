@@ -16,7 +16,7 @@ use Rattle.map_tables.specs.Nodes.{deferred_word, was_left}
 use Rattle.map_tables.specs.declared.node.Node.{Node}
 use Rattle.many_acts.specs.Given.FinishesMaps.{Standing, IsSameMap}
 use Rattle.many_acts.specs.Given.ScenesScene.{Scene, slot_of}
-use Rattle.many_acts.specs.Acts.Doings.{Doing, StepsReclaiming, MayDo, HasStepped, reclaiming, still}
+use Rattle.many_acts.specs.Acts.Doings.{Doing, StepsReclaiming, MayDo, HasStepped, reclaiming, behind, still}
 use Rattle.many_acts.specs.Acts.Lists.{Reached, LedTo}
 use Rattle.many_acts.specs.Acts.Reclaiming.{IsReclaimingAll, reclaiming_steps}
 use Rattle.many_acts.proofs.Acts.Reclaiming.{reclaiming_is_by_acts}
@@ -316,7 +316,7 @@ module _ {K V S : Type 0} (same : K → K → Bool) (hash : S → K → ℕ) (fi
       pub has_gone : HasGone told
       has_gone = by told goes (subst (λ (x : Settled (Node K V)). x ≡ settled.Waits → ⊥) (ap (λ (x : Result). x.1.1) (same_end m2 c2 told st)) (waits (did m2 c2 told st).end (did m2 c2 told st).did.did.told))
         where
-          waits : (x : Settled (Node K V)) → ReclaimingOutcome scene.world (did m2 c2 told st).did.did.w2 _ (did m2 c2 told st).did.did.lists2 x → x ≡ settled.Waits → ⊥
+          waits : (x : Settled (Node K V)) → ReclaimingOutcome scene.world (did m2 c2 told st).did.did.w2 (behind V same hash fixed.batch_size fixed.roots slot_of h.reached.0) (did m2 c2 told st).did.did.lists2 x → x ≡ settled.Waits → ⊥
           waits settled.Goes is e = cc e
           waits settled.Waits is e = is
           waits (settled.Gave value) is e = cc e
