@@ -5,10 +5,10 @@ pub returns-clause-tells : goal.returns-clause-tells
 returns-clause-tells g c = one_tells
 
 pub returns-clause-goes : goal.returns-clause-goes
-returns-clause-goes g c = one_goes_on g.K.Eq.eq g.S.Hashes.hash
+returns-clause-goes g c = one_goes_on _ _
 
 pub returns-clause-turns : goal.returns-clause-turns
-returns-clause-turns g c = one_turns g.K.Eq.eq g.S.Hashes.hash
+returns-clause-turns g c = one_turns _ _
 
 pub returns-clause-shown : goal.returns-clause-shown
-returns-clause-shown g c = one_is_shown g.K.Eq.eq g.S.Hashes.hash
+returns-clause-shown g c = one_is_shown _ _
