@@ -66,15 +66,16 @@ fn passes(row: &ReclaimAll) -> bool
 }
 
 impl<'a, T: Defers, R: One<T>> Sole<'a, T, R> {
-    /// Begins to look for a slot. Slots have words from then on.
-    fn begins(&mut self, all: &ReclaimAll)
+    /// Begins to look for a slot, and tells whether slots have words.
+    fn begins(&mut self, all: &ReclaimAll) -> bool
         requires { IsSeeking all.now 0 Begin (R.acts self.old.seat.view) (R.all self.old.seat.view) }
-        ensures seeks { Seeks all.now 0 (R.acts self.new.seat.view) (R.all self.new.seat.view) }
+        ensures there { result ≡ true → Seeks all.now 0 (R.acts self.new.seat.view) (R.all self.new.seat.view) }
+        ensures none { result ≡ false → IsUnderWay (R.none all.now) (R.acts self.new.seat.view) }
         ensures beside { R.beside self.new.seat.view ≡ R.beside self.old.seat.view }
         ensures blocks { self.new.blocks ≡ self.old.blocks }
     {
         R::acts_alone();
-        let _ = self.blocks.room(&mut self.seat, 0);
+        self.room(0).is_ok()
     }
 
     /// Makes room for a bucket that a slot needs whose head was seen so, and tells whether that was refused.
@@ -124,19 +125,23 @@ impl<'a, T: Defers, R: One<T>> Sole<'a, T, R> {
         }
     }
 
-    /// Takes a slot, if one can be taken.
-    fn registers(&mut self, all: &ReclaimAll)
+    /// Takes a slot, if one can be taken, and tells whether slots have words.
+    fn registers(&mut self, all: &ReclaimAll) -> bool
         requires { IsSeeking all.now 0 Begin (R.acts self.old.seat.view) (R.all self.old.seat.view) }
-        ensures ends { IsUnderWay all.now (R.acts self.new.seat.view) }
+        ensures there { result ≡ true → IsUnderWay all.now (R.acts self.new.seat.view) }
+        ensures none { result ≡ false → IsUnderWay (R.none all.now) (R.acts self.new.seat.view) }
         ensures beside { R.beside self.new.seat.view ≡ R.beside self.old.seat.view }
         ensures blocks { self.new.blocks ≡ self.old.blocks }
     {
-        self.begins(all);
+        if !self.begins(all) {
+            return false;
+        }
         for slot in 0..LAST_SLOT + 1 {
             if self.tries(all, slot) {
-                return;
+                return true;
             }
         }
+        true
     }
 
     /// A step of the machine that makes no operation is a turn of the seat first.
@@ -224,7 +229,9 @@ impl<'a, T: Defers + Drop, R: One<T>> Sole<'a, T, R> {
         ensures beside { R.beside self.new.seat.view ≡ R.beside self.old.seat.view }
         ensures blocks { self.new.blocks ≡ self.old.blocks }
     {
-        self.registers(row);
+        if !self.registers(row) {
+            *row = R::without_slots(row);
+        }
         self.ends(row);
     }
 }

@@ -1,7 +1,7 @@
 //! The rule of a memory of maps, while one seat alone acts.
 use crate::sole::Sole;
 use map_tables::{Hashes, Node};
-use seize::rows::{LeftOver, Leftovers};
+use seize::rows::{LeftOver, Leftovers, ReclaimAll};
 use seize_blocks::Rule;
 use seize_collector::One;
 use seize_views::Fixed;
@@ -53,16 +53,22 @@ impl<K, V, S> Leftovers<Node<K, V>> for OneOfMaps<S> {
 }
 
 impl<K: Eq, V, S: Hashes<K>> One<Node<K, V>> for OneOfMaps<S> {
-    ghost use Rattle.threads_reclaims.specs.Reclaims.Rule.{acts_of, all_in, kept_of};
+    ghost use Rattle.threads_reclaims.specs.Reclaims.Rule.{acts_of, all_in, none_in, kept_of};
     ghost use Rattle.threads_rule.specs.declared.view.View.{View};
 
     ghost acts = { acts_of };
 
     ghost all = { all_in };
 
+    ghost none = { none_in };
+
     ghost Beside = { View K V S };
 
     ghost beside = { kept_of };
 
     fn acts_alone() {}
+
+    fn without_slots(all: &ReclaimAll) -> ReclaimAll {
+        ReclaimAll::clearing(all.roots)
+    }
 }

@@ -1,14 +1,19 @@
 -- A step without an operation of the one who reclaims all that rows have left, as one who acts alone takes it; and memories that are like one another.
-use Rattle.std.specs.Prelude.{Option, Some}
-use Rattle.std.proofs.Common.{◌≡◌, ℕ, Bool, refl, sym, subst, ◌∙◌}
+use Rattle.std.specs.Prelude.{◌==◌, Option, Some, None, if◌then◌else◌}
+use Rattle.std.proofs.lemmas.Bool.{eq-eqb, ne_eqb}
+use Rattle.seize_words.specs.OneMemory.Op.{Op, Out}
+use Rattle.seize.specs.declared.advance.Advance.{Advance}
+use Rattle.seize.specs.declared.advance.Advance.TheVariants as progress
+use Rattle.seize.specs.declared.rows.register.Register.{Register}
+use Rattle.std.proofs.Common.{◌≡◌, ℕ, Bool, refl, sym, subst, ap, ◌∙◌}
 use Rattle.seize.specs.World.{World}
 use Rattle.seize_seats.specs.Seats.Owned.{BaseId, IsLike}
 use Rattle.seize_seats.specs.Seats.State.{Turns}
-use Rattle.seize_collector.specs.Empties.Asked.{HasPassed, OneMayTurn}
-use Rattle.seize_collector.specs.Renews.One.{HoldsOne, Passes}
-use Rattle.seize_collector.specs.Renews.Rule.{KeepsNone}
+use Rattle.seize_collector.specs.Empties.Asked.{HasSought, HasTold, HasPassed, OneTells, OneMayTurn}
+use Rattle.seize_collector.specs.Renews.One.{HoldsOne, all_of_one, none_of_one, one_observed}
+use Rattle.seize_collector.specs.Renews.Rule.{KeepsNone, begun_by, all_of, over_of}
 use Rattle.seize_collector.specs.declared.alone.Alone.{Alone}
-use Rattle.seize_collector.specs.declared.alone.Alone.TheVariants.{Reclaims}
+use Rattle.seize_collector.specs.declared.alone.Alone.TheVariants.{Registers, Reclaims}
 use Rattle.seize_collector.proofs.Renews.One.{one_turns}
 use Rattle.seize_words.proofs.General.{same_some}
 
@@ -23,6 +28,23 @@ module _ {T : Type 0} (defers : T → Option ℕ) (left_over : T → Bool) where
 
   abbrev nothing : Alone T → Unit {0}
   nothing v = tt
+
+  -- what an operation tells
+  sought : (c d : Register) (size : ℕ) (o : Advance ℕ) (w : Alone T) → begun_by size (d, o) w → HasSought acts all_of_one none_of_one size (Registers c size) (d, o) w
+  sought c d size (progress.Done t) w b = (None, b.0, ap Some b.1)
+  sought c d size (progress.Refused fault) w b = (
+    λ first. (None, b.0, ap Some (b.1 ∙ ap (λ (t : Bool). Reclaims (if t then over_of size else all_of size) None b.0) (eq-eqb d.slot 0 first))),
+    λ later. (None, b.0, ap Some (b.1 ∙ ap (λ (t : Bool). Reclaims (if t then over_of size else all_of size) None b.0) (ne_eqb d.slot 0 later))),
+  )
+  sought c d size progress.Goes w b = (ap Some b, ap all_of_one b)
+  sought c d size progress.Waits w b = (ap Some b, ap all_of_one b)
+
+  tells : (v w : Alone T) (op : Op T) (out : Out T) → one_observed defers left_over v op out w → HasTold acts all_of_one none_of_one defers left_over v v op out w
+  tells (Registers c size) w op out is = (is.0, is.1, sought c is.0.0 size is.0.1 w is.2)
+  tells (Reclaims c seen left) w op out is = (w, refl, is)
+
+  pub tells_so : OneTells acts all_of_one none_of_one defers left_over nothing (one_observed defers left_over)
+  tells_so v w a op out e is = (subst (λ (x : Alone T). HasTold acts all_of_one none_of_one defers left_over v x op out w) (same_some v a e) (tells v w op out is), refl)
 
   pub turns_so : OneMayTurn acts defers left_over (HoldsOne defers left_over) KeepsNone nothing
   turns_so fixed id v c c2 told seen left word is on plan =

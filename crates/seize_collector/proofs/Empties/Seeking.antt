@@ -29,19 +29,19 @@ free_head seen (inr e) = subst (λ (k : ℕ). can_be_taken k ≡ true) (sym e) r
 pub taken_head : (seen : ℕ) → (seen ≡ NEVER → ⊥) → (seen ≡ FREE → ⊥) → can_be_taken seen ≡ false
 taken_head seen not_never not_free = ap (λ (b : Bool). b || (seen == FREE)) (ne_eqb seen NEVER not_never) ∙ ne_eqb seen FREE not_free
 
-module _ {T V X : Type 0} (defers : T → Option ℕ) (left_over : T → Bool) (acts : V → Option (Alone T)) (all : V → ReclaimAll) (beside : V → X) (then_ : V → Op T → Out T → V → Type 0)
-    (tells : OneTells acts all defers left_over beside then_) (v w : V) (row : ReclaimAll) where
+module _ {T V X : Type 0} (defers : T → Option ℕ) (left_over : T → Bool) (acts : V → Option (Alone T)) (all : V → ReclaimAll) (none : ReclaimAll → ReclaimAll) (beside : V → X) (then_ : V → Op T → Out T → V → Type 0)
+    (tells : OneTells acts all none defers left_over beside then_) (v w : V) (row : ReclaimAll) where
   abbrev size : ℕ
   size = row.batch_size
 
-  known : (c : Register) (op : Op T) (out : Out T) → acts v ≡ Some (Registers c size) → then_ v op out w → HasTold acts all defers left_over v (Registers c size) op out w
+  known : (c : Register) (op : Op T) (out : Out T) → acts v ≡ Some (Registers c size) → then_ v op out w → HasTold acts all none defers left_over v (Registers c size) op out w
   known c op out is so = (tells v w (Registers c size) op out is so).0
 
   pub stays : (c : Register) (op : Op T) (out : Out T) → acts v ≡ Some (Registers c size) → then_ v op out w → beside w ≡ beside v
   stays c op out is so = (tells v w (Registers c size) op out is so).1
 
   abbrev Ended : Register × Advance ℕ → Type 0
-  Ended end = HasSought acts all size v end w
+  Ended end = HasSought acts all none size v end w
 
   abbrev SeeksNow : ℕ → Type 0
   SeeksNow slot = Seeks row slot (acts w) (all w)
@@ -61,8 +61,14 @@ module _ {T V X : Type 0} (defers : T → Option ℕ) (left_over : T → Bool) (
       let k = known (seeker_at 0 at.Begin) (Room 0) (Roomed (Ok u)) is.0 so in
       let e : Ended (going (seeker_at 0 at.Begin) at.Look) = subst Ended k.1.3 k.2 in (e.0, e.1 ∙ is.1)
 
-  pub has_begun : (r : Result _ Fault) → r ≡ Ok tt → Was 0 at.Begin → then_ v (Room 0) (Roomed r) w → SeeksNow 0
-  has_begun r e is so = begun_there tt is (subst (λ (o : Result _ Fault). then_ v (Room 0) (Roomed o) w) e so)
+  begun_refused : (f : Fault) → Was 0 at.Begin → then_ v (Room 0) (Roomed (Err f)) w → IsUnderWay (none row) (acts w)
+  begun_refused f is so =
+      let k = known (seeker_at 0 at.Begin) (Room 0) (Roomed (Err f)) is.0 so in
+      let e : Ended (refused (seeker_at 0 at.Begin) f) = subst Ended k.1.3 k.2 in subst (λ (r : ReclaimAll). IsUnderWay (none r) (acts w)) is.1 (e.0 refl)
+
+  pub has_begun : (r : Result _ Fault) → Was 0 at.Begin → then_ v (Room 0) (Roomed r) w → (is_ok r ≡ true → SeeksNow 0) × (is_ok r ≡ false → IsUnderWay (none row) (acts w))
+  has_begun (Ok u) is so = (λ yes. begun_there u is so, λ no. absurd (cc no))
+  has_begun (Err f) is so = (λ yes. absurd (cc yes), λ no. begun_refused f is so)
 
   module _ (slot : ℕ) where
     -- the next slot, if there is one
@@ -76,10 +82,7 @@ module _ {T V X : Type 0} (defers : T → Option ℕ) (left_over : T → Bool) (
         let here : nat_lt (slot + 1) (LAST_SLOT + 1) ≡ false = grind (arith, lt) in
         let e : Ended (refused (seeker_at slot stands) SlotsUsedUp) =
         subst (λ (t : Bool). Ended (if t then going (seeker_at (slot + 1) stands) at.Look else refused (seeker_at slot stands) SlotsUsedUp)) lt is in
-        subst (λ (t : Bool). SeeksBy t row (slot + 1) (acts w) (all w)) (sym here) (elim e as (λ _. IsUnderWay row (acts w)) [
-          | inl first ↦ absurd (grind (arith, lt, first))
-          | inr on ↦ under by_it on
-        ])
+        subst (λ (t : Bool). SeeksBy t row (slot + 1) (acts w) (all w)) (sym here) (under by_it (e.1 (λ first. absurd (grind (arith, lt, first)))))
 
     looked : (seen : ℕ) (b : Bool) → can_be_taken seen ≡ b → Was slot at.Look → then_ v (Load (Slot slot HEAD)) (Found seen) w
         → Ended (if b then taking (seeker_at slot at.Look) seen (bucket_needed slot) else further (seeker_at slot at.Look))
@@ -115,10 +118,7 @@ module _ {T V X : Type 0} (defers : T → Option ℕ) (left_over : T → Bool) (
         → then_ v (Room bucket) (Roomed (Err f)) w → IsUnderWay row (acts w)
     widened_refused seen bucket f needs is so =
         let k = known (seeker_at slot (at.Widen bucket seen)) (Room bucket) (Roomed (Err f)) is.0 so in
-        let e : Ended (refused (seeker_at slot (at.Widen bucket seen)) f) = subst Ended k.1.3 k.2 in elim e as (λ _. IsUnderWay row (acts w)) [
-          | inl first ↦ (let none : bucket_needed slot ≡ None = ap bucket_needed first in absurd (cc (needs, none)))
-          | inr on ↦ under is.1 on
-        ]
+        let e : Ended (refused (seeker_at slot (at.Widen bucket seen)) f) = subst Ended k.1.3 k.2 in under is.1 (e.1 (λ first. (let nothing : bucket_needed slot ≡ None = ap bucket_needed first in cc (needs, nothing))))
 
     pub widened : (seen bucket : ℕ) (r : Result _ Fault) → Some bucket ≡ bucket_needed slot → Was slot (at.Widen bucket seen) → then_ v (Room bucket) (Roomed r) w
         → (is_err r ≡ true → IsUnderWay row (acts w)) × (is_err r ≡ false → Is slot (at.Take seen))

@@ -214,7 +214,7 @@ module _ {T : Type 0} (defers : T → Option ℕ) (left_over : T → Bool) where
   not_rewrite v b x e = subst IsNoRewrite e (one_none v)
 
 -- ---- a step over a memory of which it is known what may be done, and what it told
-module _ {T M V B X : Type 0} (defers : T → Option ℕ) (left_over : T → Bool) (blocks : M → B) (view : M → V) (acts : V → Option (Alone T)) (all : V → ReclaimAll)
+module _ {T M V B X : Type 0} (defers : T → Option ℕ) (left_over : T → Bool) (blocks : M → B) (view : M → V) (acts : V → Option (Alone T)) (all : V → ReclaimAll) (none : ReclaimAll → ReclaimAll)
     (beside : V → X) (then_ : V → Op T → Out T → V → Type 0) (owns : M → ℕ → Type 0) (allowed : M → Op T → Type 0) where
   abbrev CanOne : M → Op T → Type 0
   CanOne = Can owns allowed
@@ -250,7 +250,7 @@ module _ {T M V B X : Type 0} (defers : T → Option ℕ) (left_over : T → Boo
   pub can_make : (m : M) → MayGoOn m → (a : Alone T) (op : Op T) → one m ≡ Some a → op_of_one defers left_over a ≡ Some op → CanOne m op
   can_make m law a op is e = record { alone = has_alone m a op e; may = law a op is e }
 
-  module _ (tells : OneTells acts all defers left_over beside then_) (m : M) (law : MayGoOn m) (c : ReclaimAll) (under : IsUnderWay c (one m)) (does : IsDo (plan c)) where
+  module _ (tells : OneTells acts all none defers left_over beside then_) (m : M) (law : MayGoOn m) (c : ReclaimAll) (under : IsUnderWay c (one m)) (does : IsDo (plan c)) where
     told : (op : Op T) (out : Out T) (n : M) → HasOne m op out n → (a : Alone T) × (one n ≡ Some a) × ReclaimsOn defers left_over c under.1 out a
     told op out n made = (tells (view m) (view n) (Reclaims c under.0 under.1) op out under.2 made.1).0
 

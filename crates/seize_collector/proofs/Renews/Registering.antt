@@ -40,7 +40,7 @@ use Rattle.seize_collector.proofs.Renews.Roots.{came_quiet, step_stays}
 use Rattle.seize_words.proofs.General.{same_some}
 
 -- where there are no slots, none has a word
-no_word : (slots : List (List ℕ)) → length slots ≡ 0 → slot_word slots 0 HEAD ≡ None
+pub no_word : (slots : List (List ℕ)) → length slots ≡ 0 → slot_word slots 0 HEAD ≡ None
 no_word [] none = refl
 no_word (x ∷ slots) none = absurd (omega (arith, none))
 

@@ -1,5 +1,5 @@
 -- What is asked of a rule by which one seat acts alone: what tells it how far it has come, that each of its steps may be taken, and that others rest.
-use Rattle.std.specs.Prelude.{◌≡◌, ◌⊎◌, ℕ, ◌<◌, ◌^◌, Bool, Option, Some, None}
+use Rattle.std.specs.Prelude.{◌≡◌, ℕ, ◌<◌, ◌^◌, Bool, Option, Some, None}
 use Rattle.seize_words.specs.OneMemory.Op.{Op, Out}
 use Rattle.seize_words.specs.OneMemory.Plan.{Turn, Now}
 use Rattle.seize.specs.declared.advance.Advance.{Advance}
@@ -21,11 +21,11 @@ use Rattle.seize_collector.specs.declared.alone.Alone.{Alone}
 use Rattle.seize_collector.specs.declared.alone.Alone.TheVariants.{Registers, Reclaims}
 
 module _ {T V : Type 0} (acts : V → Option (Alone T)) where
-  module _ (all : V → ReclaimAll) where
-    -- Where registering has come so far it goes on; or it reclaims all; but where it was refused what it needs for the first slot nothing is said.
+  module _ (all : V → ReclaimAll) (none : ReclaimAll → ReclaimAll) where
+    -- Where registering has come so far it goes on; or it reclaims all, or what there is without slots, where it was refused the words of the first ones.
     abbrev pub HasSought : ℕ → V → Register × Advance ℕ → V → Type 0
     HasSought size v (c, progress.Done t) w = IsUnderWay (all v) (acts w)
-    HasSought size v (c, progress.Refused fault) w = (c.slot ≡ 0) ⊎ IsUnderWay (all v) (acts w)
+    HasSought size v (c, progress.Refused fault) w = (c.slot ≡ 0 → IsUnderWay (none (all v)) (acts w)) × ((c.slot ≡ 0 → ⊥) → IsUnderWay (all v) (acts w))
     HasSought size v (c, _) w = (acts w ≡ Some (Registers c size)) × (all w ≡ all v)
 
     module _ (defers : T → Option ℕ) (left_over : T → Bool) where

@@ -8,7 +8,7 @@ use Rattle.seize.specs.declared.rows.reclaim_all.Reclaiming.TheVariants as at
 use Rattle.seize.specs.declared.rows.register.Registering.TheVariants as register_at
 use Rattle.seize.specs.declared.rows.settle.Settled.{Settled}
 use Rattle.seize.specs.Register.{register_plan}
-use Rattle.seize.specs.ReclaimAll.{reclaim_all_plan}
+use Rattle.seize.specs.ReclaimAll.{standing, reclaim_all_plan}
 use Rattle.seize.specs.World.{World}
 use Rattle.seize_seats.specs.Seats.Errands.{RenewsTo, RenewsFrom}
 use Rattle.seize_seats.specs.Seats.Lendings.{VisibleTo, IsValueOf}
@@ -34,6 +34,10 @@ one_first fixed = Registers (seeker_at 0 register_at.Begin) fixed.batch_size
 abbrev pub all_of_one : {T : Type 0} → Alone T → ReclaimAll
 all_of_one (Registers c size) = all_of size
 all_of_one (Reclaims c seen left) = c
+
+-- without slots it has nothing to do
+abbrev pub none_of_one : ReclaimAll → ReclaimAll
+none_of_one c = standing c at.Over
 
 -- a seat that notes so has nothing under way
 abbrev pub NotedRests : {T : Type 0} → Noted T → Type 0

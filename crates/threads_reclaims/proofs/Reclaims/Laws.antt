@@ -41,7 +41,7 @@ use Rattle.threads_rule.specs.declared.view.SeatWork.{SeatWork}
 use Rattle.threads_rule.specs.declared.view.SeatWork.TheVariants.{Nothing}
 use Rattle.threads_rule.proofs.Views.Rows.{rows_turn}
 use Rattle.threads_reclaims.specs.Reclaims.Promises.{IsReclaimed, OneBegins, OneEnds, OneEmpties}
-use Rattle.threads_reclaims.specs.Reclaims.Rule.{HoldsOne, Reclaiming, TakesAt, NobodyKeeps, IsOne, plainly, inside, seeking, one_first, kept_of, acts_of, all_in, one_told}
+use Rattle.threads_reclaims.specs.Reclaims.Rule.{HoldsOne, Reclaiming, TakesAt, NobodyKeeps, IsOne, plainly, inside, seeking, one_first, kept_of, acts_of, all_in, none_in, one_told}
 use Rattle.threads_reclaims.specs.declared.sole.Sole.{Sole}
 use Rattle.threads_reclaims.specs.declared.sole.Sole.TheVariants.{Acts, Left}
 use Rattle.threads_reclaims.proofs.Reclaims.Free.{rests_so}
@@ -51,8 +51,8 @@ use Rattle.threads_reclaims.proofs.Reclaims.Steps.{same_there, plan, now, goes_b
 use Rattle.seize_words.proofs.General.{same_some}
 
 -- what it is told it knows, and what it knows of maps stays
-pub one_tells : {K V S : Type 0} → OneTells acts_of all_in deferred_word was_left kept_of (one_told {K = K} {V = V} {S = S})
-one_tells (Acts b r u) w a op out e told = (subst (λ (x : Alone _). HasTold acts_of all_in deferred_word was_left (Acts b r u) x op out w) (same_some b a e) told.0, told.1)
+pub one_tells : {K V S : Type 0} → OneTells acts_of all_in none_in deferred_word was_left kept_of (one_told {K = K} {V = V} {S = S})
+one_tells (Acts b r u) w a op out e told = (subst (λ (x : Alone _). HasTold acts_of all_in none_in deferred_word was_left (Acts b r u) x op out w) (same_some b a e) told.0, told.1)
 one_tells (Left u) w a op out e told = absurd told
 
 -- a block that is shown is there, with its value

@@ -8,7 +8,7 @@ use Rattle.seize.specs.declared.states.TheConstants.{HEAD}
 use Rattle.seize.specs.declared.advance.Advance.{Advance}
 use Rattle.seize.specs.declared.advance.Advance.TheVariants as progress
 use Rattle.seize.specs.declared.rows.register.Register.{Register}
-use Rattle.seize.specs.ReclaimAll.{reclaiming_all}
+use Rattle.seize.specs.ReclaimAll.{reclaiming_all, clearing}
 use Rattle.seize.specs.Register.{register_plan}
 use Rattle.map_tables.specs.Nodes.{deferred_word}
 use Rattle.map_tables.specs.declared.node.Node.{Node}
@@ -25,7 +25,7 @@ use Rattle.seize_collector.specs.Empties.Asked.{HasSought}
 use Rattle.seize_collector.specs.Renews.Rule.{SeeksAt}
 use Rattle.seize_collector.specs.declared.alone.Alone.{Alone}
 use Rattle.seize_collector.specs.declared.alone.Alone.TheVariants.{Registers, Reclaims}
-use Rattle.seize_collector.proofs.Renews.Registering.{IsWell}
+use Rattle.seize_collector.proofs.Renews.Registering.{IsWell, no_word}
 use Rattle.threads_rule.specs.Views.Notes.{SeatIsQuiescent, row_known}
 use Rattle.threads_rule.specs.Views.Rule.{MapsWorld, Holds, KeepsFor}
 use Rattle.threads_rule.specs.Views.Told.{told, observed_by}
@@ -33,10 +33,10 @@ use Rattle.threads_rule.specs.declared.view.View.{View}
 use Rattle.threads_rule.specs.declared.view.SeatWork.{SeatWork}
 use Rattle.threads_rule.specs.declared.view.SeatWork.TheVariants.{Nothing}
 use Rattle.threads_rule.proofs.Views.Rows.{rows_go_on}
-use Rattle.threads_reclaims.specs.Reclaims.Rule.{HoldsOne, Seeking, TakesAt, IsOne, NobodyKeeps, plainly, inside, freed, kept_of, acts_of, all_in, one_told}
+use Rattle.threads_reclaims.specs.Reclaims.Rule.{HoldsOne, Seeking, TakesAt, IsOne, NobodyKeeps, plainly, inside, freed, kept_of, acts_of, all_in, none_in, one_told}
 use Rattle.threads_reclaims.specs.declared.sole.Sole.{Sole}
 use Rattle.threads_reclaims.specs.declared.sole.Sole.TheVariants.{Acts, Left}
-use Rattle.threads_reclaims.proofs.Reclaims.Begun.{begins_goes}
+use Rattle.threads_reclaims.proofs.Reclaims.Begun.{begins_slots, begins_roots}
 use Rattle.threads_reclaims.proofs.Reclaims.Inside.{set_but, one_on, at_inside, inside_after}
 use Rattle.threads_reclaims.proofs.Reclaims.Taking.{well_after, done_there}
 use Rattle.seize_model.proofs.Given.SeizeMemoryWords.Room.{slot_there}
@@ -96,7 +96,7 @@ module _ {K V S : Type 0} (same : K → K → Bool) (hash : S → K → ℕ) (fi
 
     -- it goes on
     goes_on : (d : Register) → g.0.slot ≡ slot_view.Registers d → SeeksAt m d d.stands
-        → ((x : Sole K V S) → acts_of x ≡ Some (Registers d size) → all_in x ≡ reclaiming_all size r → HasSought acts_of all_in size acting row.0 x) → Gone
+        → ((x : Sole K V S) → acts_of x ≡ Some (Registers d size) → all_in x ≡ reclaiming_all size r → HasSought acts_of all_in none_in size acting row.0 x) → Gone
     goes_on d slot seeks says =
         let next : Sole K V S = Acts (Registers d size) r g.0 in (
           next,
@@ -112,7 +112,7 @@ module _ {K V S : Type 0} (same : K → K → Bool) (hash : S → K → ℕ) (fi
 
     -- it reclaims all
     abbrev Says : Type 0
-    Says = (x : Sole K V S) (left : ℕ) → acts_of x ≡ Some (Reclaims (reclaiming_all size r) None left) → HasSought acts_of all_in size acting row.0 x
+    Says = (x : Sole K V S) (left : ℕ) → acts_of x ≡ Some (Reclaims (reclaiming_all size r) None left) → HasSought acts_of all_in none_in size acting row.0 x
 
     all_is : (left : ℕ) → ◌≡◌ {A = Option (Alone (Node K V))} (Some (Reclaims (reclaiming_all fixed.batch_size fixed.roots) None left)) (Some (Reclaims (reclaiming_all size r) None left))
     all_is left =
@@ -125,7 +125,7 @@ module _ {K V S : Type 0} (same : K → K → Bool) (hash : S → K → ℕ) (fi
         let slots : IsSome (word_at m (Slot 0 HEAD)) =
         subst (λ (x : Mem (Node K V)). IsSome (word_at x (Slot 0 HEAD))) (sym is)
         (slot_there g.2.reached.0.0.world.memory 0 HEAD r2.good.room.bucketed (subst (λ (x : Mem (Node K V)). 0 < length x.slots) is some) (omega arith)) in
-        let b = begins_goes same hash fixed word s m id r (Registers c size) v g.0 g.1 at_id h.one rest other g.2 slots in (
+        let b = begins_slots same hash fixed word s m id r (Registers c size) v g.0 g.1 at_id h.one rest other g.2 slots in (
           b.0,
           b.1,
           inr b.2,
@@ -133,19 +133,16 @@ module _ {K V S : Type 0} (same : K → K → Bool) (hash : S → K → ℕ) (fi
           ((row.0, row.1, says b.0 b.3.0 (b.3.1 ∙ all_is b.3.0)), b.4 ∙ kept),
         )
 
-    -- nobody acts any more
-    stops : SeatIsQuiescent g.0 → ((x : Sole K V S) → HasSought acts_of all_in size acting row.0 x) → Gone
-    stops rest says =
-        let next : Sole K V S = Left g.0 in (
-          next,
-          g.1,
-          inl record {
-            holds = subst (Holds same hash fixed) (sym (inside_after s m id next g.1)) g.2;
-            seats = set_but (λ _ (x : Sole K V S). TakesAt fixed m x) s.views id acting next at_id rest (λ j x ne at. takes j x m ne at);
-            one = one_on s m id r (Registers c size) v next g.1 at_id h.one;
-          },
-          λ j k b u o ne ne2 at at2 none. none,
-          ((row.0, row.1, says next), kept),
+    -- or what is left over at roots, where there are no slots
+    clears : SeatIsQuiescent g.0 → length m.slots ≡ 0
+        → ((x : Sole K V S) (left : ℕ) → acts_of x ≡ Some (Reclaims (clearing r) None left) → HasSought acts_of all_in none_in size acting row.0 x) → Gone
+    clears rest none says =
+        let b = begins_roots same hash fixed word s m id r (Registers c size) v g.0 g.1 at_id h.one rest other g.2 (no_word m.slots none) in (
+          b.0,
+          b.1,
+          inr b.2,
+          λ j k a u o ne ne2 at at2 nothing. nothing,
+          ((row.0, row.1, says b.0 b.3.0 (b.3.1 ∙ ap (λ (k : ℕ). Some (Reclaims (clearing k) None b.3.0)) (sym t.1))), b.4 ∙ kept),
         )
 
     -- who holds a slot, or none, rests
@@ -155,7 +152,7 @@ module _ {K V S : Type 0} (same : K → K → Bool) (hash : S → K → ℕ) (fi
         (subst (λ (k : SeatWork K V S). IsQuiescent (row_known {S = S} None g.0.slot k)) (sym work_is) (subst (λ (y : SlotView (Node K V)). IsQuiescent y) (sym e) is))
 
     abbrev Sought : Register × Advance ℕ → Sole K V S → Type 0
-    Sought end x = HasSought acts_of all_in size acting end x
+    Sought end x = HasSought acts_of all_in none_in size acting end x
 
     by_end : (end : Register × Advance ℕ) → row.0 ≡ end → IsWell m end → g.0.slot ≡ left_by end → Gone
     by_end (d, progress.Goes) e so slot = goes_on d slot so.2 (λ x acts all. subst (λ (y : Register × Advance ℕ). Sought y x) (sym e) (acts, all))
@@ -164,9 +161,12 @@ module _ {K V S : Type 0} (same : K → K → Bool) (hash : S → K → ℕ) (fi
         ends (quiet (slot_view.Outside a) slot tt)
         (done_there s.memory m c short.0 row.0 a (ap (λ (y : Register × Advance ℕ). y.1) e) c.stands short.1 t.5 op out makes took row.1)
         (λ x left acts. subst (λ (y : Register × Advance ℕ). Sought y x) (sym e) (None, left, acts))
-    by_end (d, progress.Refused fault) e (inl none) slot = stops (quiet slot_view.Rests slot tt) (λ x. subst (λ (y : Register × Advance ℕ). Sought y x) (sym e) (inl none.0))
+    by_end (d, progress.Refused fault) e (inl none) slot =
+        clears (quiet slot_view.Rests slot tt) none.1
+        (λ x left acts. subst (λ (y : Register × Advance ℕ). Sought y x) (sym e) (λ first. (None, left, acts), λ later. absurd (later none.0)))
     by_end (d, progress.Refused fault) e (inr some) slot =
-        ends (quiet slot_view.Rests slot tt) some.1 (λ x left acts. subst (λ (y : Register × Advance ℕ). Sought y x) (sym e) (inr (None, left, acts)))
+        ends (quiet slot_view.Rests slot tt) some.1
+        (λ x left acts. subst (λ (y : Register × Advance ℕ). Sought y x) (sym e) (λ first. absurd (some.0 first), λ later. (None, left, acts)))
 
     pub goes : Gone
     goes = by_end row.0 refl well slot_is

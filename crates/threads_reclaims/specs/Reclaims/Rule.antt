@@ -9,7 +9,7 @@ use Rattle.seize.specs.declared.rows.reclaim_all.ReclaimAll.{ReclaimAll}
 use Rattle.seize.specs.declared.rows.reclaim_all.Reclaiming.TheVariants as at
 use Rattle.seize.specs.declared.rows.register.Registering.TheVariants as register_at
 use Rattle.seize.specs.declared.rows.settle.Settled.{Settled}
-use Rattle.seize.specs.ReclaimAll.{reclaiming_all, reclaim_all_plan}
+use Rattle.seize.specs.ReclaimAll.{reclaiming_all, clearing, reclaim_all_plan}
 use Rattle.map_tables.specs.Nodes.{deferred_word, was_left}
 use Rattle.map_tables.specs.declared.node.Node.{Node}
 use Rattle.many_acts.specs.Given.ScenesScene.{Scene, slot_of}
@@ -39,6 +39,10 @@ EndsIn {K} {V} zero m c = (c.stands ≡ at.Over → ⊥) → ⊥
 EndsIn {K} {V} (suc k) m c =
     (c.stands ≡ at.Over → ⊥) → (m2 : Mem (Node K V)) (c2 : ReclaimAll) (progress : Settled (Node K V))
     → Steps Took value_at m (reclaim_all_plan deferred_word was_left c) m2 (c2, progress) → EndsIn k m2 c2
+
+-- what is left over at roots, where there are no slots
+abbrev pub none_in : ReclaimAll → ReclaimAll
+none_in c = clearing c.roots
 
 -- nobody looks at what another one may take
 abbrev pub NobodyKeeps : {A W : Type 0} → A → A → W → ℕ → Type 0
@@ -82,7 +86,7 @@ module _ {K V S : Type 0} where
 
   -- what an operation tells the one that acts: how far it has come
   abbrev pub one_told : Sole K V S → Op (Node K V) → Out (Node K V) → Sole K V S → Type 0
-  one_told (Acts a roots v) op out w = HasTold acts_of all_in deferred_word was_left (Acts a roots v) a op out w × (kept_of w ≡ freed v)
+  one_told (Acts a roots v) op out w = HasTold acts_of all_in none_in deferred_word was_left (Acts a roots v) a op out w × (kept_of w ≡ freed v)
   one_told (Left v) op out w = ⊥
 
   -- the state as seats knew it

@@ -5,7 +5,7 @@ use Rattle.seize_collector.proofs.sole.Sole.makes.Goals as goal
 pub step_by-requires : goal.step_by-requires
 step_by-requires g c =
     let row = c.args.row.now in let x = c.args.self.now in
-    may_step g.T.Defers.defers g.R.Leftovers.left (λ m. m.blocks) (λ m. m.seat.view) g.R.One.acts g.R.One.all g.R.One.beside g.R.Rule.then
+    may_step g.T.Defers.defers g.R.Leftovers.left (λ m. m.blocks) (λ m. m.seat.view) g.R.One.acts g.R.One.all g.R.One.none g.R.One.beside g.R.Rule.then
     (λ m. Owns (g.R.Rule.holds m.blocks.now.words.fixed) g.R.Rule.keeps m.seat.id m.seat.view)
     (λ m op. Allows (g.R.Rule.holds m.blocks.now.words.fixed) g.R.Rule.keeps m.seat.id m.seat.view op (g.R.Rule.then m.seat.view op))
     c.acts_alone.ensures.tells x
@@ -15,7 +15,7 @@ step_by-requires g c =
 pub returns-in_default : goal.returns-in_default
 returns-in_default g c =
     let row = c.args.row.now in let x = c.args.self.now in let k =
-    has_stepped g.T.Defers.defers g.R.Leftovers.left (λ m. m.blocks) (λ m. m.seat.view) g.R.One.acts g.R.One.all g.R.One.beside g.R.Rule.then
+    has_stepped g.T.Defers.defers g.R.Leftovers.left (λ m. m.blocks) (λ m. m.seat.view) g.R.One.acts g.R.One.all g.R.One.none g.R.One.beside g.R.Rule.then
     (λ m. Owns (g.R.Rule.holds m.blocks.now.words.fixed) g.R.Rule.keeps m.seat.id m.seat.view)
     (λ m op. Allows (g.R.Rule.holds m.blocks.now.words.fixed) g.R.Rule.keeps m.seat.id m.seat.view op (g.R.Rule.then m.seat.view op))
     c.acts_alone.ensures.tells x
@@ -27,7 +27,7 @@ returns-in_default g c =
 pub returns-in-Gave : goal.returns-in-Gave
 returns-in-Gave g c =
     let row = c.args.row.now in let x = c.args.self.now in let k =
-    has_stepped g.T.Defers.defers g.R.Leftovers.left (λ m. m.blocks) (λ m. m.seat.view) g.R.One.acts g.R.One.all g.R.One.beside g.R.Rule.then
+    has_stepped g.T.Defers.defers g.R.Leftovers.left (λ m. m.blocks) (λ m. m.seat.view) g.R.One.acts g.R.One.all g.R.One.none g.R.One.beside g.R.Rule.then
     (λ m. Owns (g.R.Rule.holds m.blocks.now.words.fixed) g.R.Rule.keeps m.seat.id m.seat.view)
     (λ m op. Allows (g.R.Rule.holds m.blocks.now.words.fixed) g.R.Rule.keeps m.seat.id m.seat.view op (g.R.Rule.then m.seat.view op))
     c.acts_alone.ensures.tells x
