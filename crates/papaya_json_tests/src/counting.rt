@@ -1,6 +1,6 @@
 //! Values that count their drops: each that was stored is dropped once.
 use crate::Hashing;
-use papaya_map::{Fault, HashMap, IdSource, Session};
+use papaya_json::{Fault, HashMap, IdSource, Session};
 use std::alloc::Global;
 use std::sync::atomic::AtomicU64;
 use std::sync::atomic::Ordering::SeqCst;

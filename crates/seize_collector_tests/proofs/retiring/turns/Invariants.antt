@@ -1,5 +1,5 @@
 use Rattle.std.specs.Prelude.{◌≡◌}
-use Rattle.seize_shared_tests.proofs.retiring.turns.Given as goal
+use Rattle.seize_collector_tests.proofs.retiring.turns.Given as goal
 
 -- the pass is of the memory that it was of
 abbrev pub invariant-loop-turn : goal.invariant-loop-turn

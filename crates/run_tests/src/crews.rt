@@ -1,6 +1,7 @@
 //! Two drivers on two threads; and drivers that list what did not happen so.
 ghost use Rattle.std.specs.Prelude.{◌≡◌};
 
+use crate::Told;
 use crate::wrong::{Wrong, apply_wrongly};
 use papaya_steps::{
     Call, CrewName, CrewOf, Driver, Event, Fault, Finished, KeyHash, OneKey, Outcome, ResizeMode,
@@ -10,10 +11,8 @@ use run_effects::outcomes;
 use run_names::kept::events_again;
 use std::alloc::{AllocError, Global};
 use std::marker::Brand;
-use std::process::Abort;
 use std::sync::Wait;
 use std::sync::ledger::Blank;
-use std::test::Fail;
 use std::thread::{Threads, for_each_mut};
 
 const SETUP: Setup = Setup {
@@ -116,21 +115,22 @@ fn two<W: Threads + Wait + Sync>(
     by_two::<Ours, Brand, W>(rt, alloc, SETUP, KeyHash::Key, Blank::new(2))
 }
 
-/// The two runs came to the same, event by event.
-fn came_to_the_same(rt: &impl Abort, one: &Run<u64, u64>, other: &Run<u64, u64>) {
-    assert_eq!(rt; one.outcomes.len(), other.outcomes.len());
+/// Whether the two runs came to the same, event by event.
+fn came_to_the_same(one: &Run<u64, u64>, other: &Run<u64, u64>) -> bool {
+    let mut is_so = one.outcomes.len() == other.outcomes.len();
     for (outcome, again) in one.outcomes.iter().zip(other.outcomes.iter()) {
-        assert!(rt; outcomes::same(outcome, again));
+        is_so = outcomes::same(outcome, again) && is_so;
     }
-    assert!(rt; one.steps.as_slice() == other.steps.as_slice());
-    assert!(rt; one.effects.as_slice() == other.effects.as_slice());
-    assert_eq!(rt; one.trace.len(), other.trace.len());
+    is_so
+        && one.steps.as_slice() == other.steps.as_slice()
+        && one.effects.as_slice() == other.effects.as_slice()
+        && one.trace.len() == other.trace.len()
 }
 
-/// The same is left at the ends of the two runs.
-fn left_the_same(rt: &impl Abort, one: &Run<u64, u64>, other: &Run<u64, u64>) {
-    assert_eq!(rt; one.given_back.len(), other.given_back.len());
-    assert_eq!(rt; one.kept.len(), other.kept.len());
+/// Whether the same pairs were given back and kept.
+fn has_the_same(one: &Run<u64, u64>, other: &Run<u64, u64>) -> bool {
+    let mut is_so = one.given_back.len() == other.given_back.len()
+        && one.kept.len() == other.kept.len();
     let pairs = one
         .given_back
         .as_slice()
@@ -142,43 +142,42 @@ fn left_the_same(rt: &impl Abort, one: &Run<u64, u64>, other: &Run<u64, u64>) {
         .iter()
         .chain(other.kept.as_slice().iter());
     for (pair, again) in pairs.zip(others) {
-        assert!(rt;
-            pair.number == again.number && pair.key == again.key && pair.value == again.value
-        );
+        let same = pair.number == again.number
+            && pair.key == again.key
+            && pair.value == again.value;
+        is_so = same && is_so;
     }
-    assert_eq!(rt; one.maps.len(), other.maps.len());
-    for (map, again) in one.maps.iter().zip(other.maps.iter()) {
-        assert!(rt; map.name.is(&again.name) && map.pairs.as_slice() == again.pairs.as_slice());
-    }
-    assert!(rt; one.waiting.as_slice() == other.waiting.as_slice());
-    assert_eq!(rt;
-        (one.tables, one.stored, one.live),
-        (other.tables, other.stored, other.live)
-    );
+    is_so
 }
 
-#[test]
-fn two_threads_come_to_the_run_of_the_kept_schedule(rt: HostRuntime) -> Result<(), Fail> {
-    let alloc = rt.alloc();
-    match two(&rt, alloc)? {
-        Some(finished) => {
-            assert_eq!(rt; finished.schedule.len(), 46);
-            assert_eq!(rt; finished.run.stored, 40);
-            let again = events_again::<_, Ours>(alloc, finished.schedule.as_slice())?;
-            let run = run(alloc, SETUP, KeyHash::Key, again, Vec::new(alloc))?;
-            came_to_the_same(&rt, &finished.run, &run);
-            left_the_same(&rt, &finished.run, &run);
-        }
-        None => assert!(rt; false),
+/// Whether the same is left at the ends of the two runs.
+fn left_the_same(one: &Run<u64, u64>, other: &Run<u64, u64>) -> bool {
+    let mut is_so = has_the_same(one, other) && one.maps.len() == other.maps.len();
+    for (map, again) in one.maps.iter().zip(other.maps.iter()) {
+        let same = map.name.is(&again.name) && map.pairs.as_slice() == again.pairs.as_slice();
+        is_so = same && is_so;
     }
-    Ok(())
+    is_so
+        && one.waiting.as_slice() == other.waiting.as_slice()
+        && (one.tables, one.stored, one.live) == (other.tables, other.stored, other.live)
+}
+
+/// Tells whether two threads come to the run of the kept schedule.
+pub(crate) fn meet<W: Threads + Wait + Sync>(rt: &W, alloc: Global) -> Told<bool> {
+    let Some(finished) = two(rt, alloc)? else {
+        return Ok(false);
+    };
+    let again = events_again::<_, Ours>(alloc, finished.schedule.as_slice())?;
+    let run = run(alloc, SETUP, KeyHash::Key, again, Vec::new(alloc))?;
+    let many = finished.schedule.len() == 46 && finished.run.stored == 40;
+    Ok(many && came_to_the_same(&finished.run, &run) && left_the_same(&finished.run, &run))
 }
 
 /// One driver makes a map, as it says, or wrongly: whether the crew finds that they agree.
 fn by_one<
     R: Runner<Event<u64, u64>, Outcome = Outcome<u64>, Run = Run<u64, u64>>,
     N: CrewName,
-    W: Wait + Abort,
+    W: Wait,
 >(
     rt: &W,
     alloc: Global,
@@ -200,23 +199,20 @@ where
     let Some(driver) = drivers.pop() else {
         unreachable!()
     };
-    let Ok(driver) = apply_wrongly(rt, alloc, &crew, driver, wrong) else {
-        panic!(rt; "no memory")
+    let has_applied = match apply_wrongly(rt, alloc, &crew, driver, wrong) {
+        Ok(driver) => drivers.push(driver).is_ok(),
+        Err(_) => false,
     };
-    assert!(rt; drivers.push(driver).is_ok());
-    Ok(crew.finish(alloc, drivers)?.is_some())
+    Ok(crew.finish(alloc, drivers)?.is_some() && has_applied)
 }
 
 /// The same, by a ledger of its own.
-fn one<W: Wait + Abort>(rt: &W, alloc: Global, wrong: Wrong) -> Result<bool, Fault> {
+fn one<W: Wait>(rt: &W, alloc: Global, wrong: Wrong) -> Result<bool, Fault> {
     by_one::<Ours, Brand, W>(rt, alloc, SETUP, KeyHash::Key, Blank::new(1), wrong)
 }
 
-#[test]
-fn a_driver_that_lists_what_it_did_not_apply_is_found(rt: HostRuntime) -> Result<(), Fail> {
-    let alloc = rt.alloc();
-    assert!(rt; one(&rt, alloc, Wrong::Nothing)?);
-    assert!(rt; !one(&rt, alloc, Wrong::Event)?);
-    assert!(rt; !one(&rt, alloc, Wrong::Outcome)?);
-    Ok(())
+/// Tells whether a driver that lists what it did not apply is found, and no other one.
+pub(crate) fn finds_the_wrong<W: Wait>(rt: &W, alloc: Global) -> Told<bool> {
+    let right = one(rt, alloc, Wrong::Nothing)?;
+    Ok(right && !one(rt, alloc, Wrong::Event)? && !one(rt, alloc, Wrong::Outcome)?)
 }

@@ -1,7 +1,7 @@
 //! Two threads store texts, which are found by lent ones then, with no copy of them.
 use crate::Hashing;
 use map_forms::Text;
-use papaya_map::{Fault, HashMap, IdSource, Session};
+use papaya_json::{Fault, HashMap, IdSource, Session};
 use std::alloc::Global;
 use std::sync::Wait;
 use std::thread::{self, Threads};

@@ -1,5 +1,5 @@
 -- The crew's ledger is the blank's, and its setup is the one that is given.
-use Rattle.papaya_steps_tests.proofs.crews.two.Given as goal
+use Rattle.run_tests.proofs.crews.two.Given as goal
 
 abbrev pub ghosts-by_two-N-CrewName : goal.ghosts-by_two-N-CrewName
 ghosts-by_two-N-CrewName g a = record { setup = a.setup }
