@@ -37,8 +37,8 @@ pub trait One<T: Defers>: Rule<T, Fixed = Fixed> + Leftovers<T> {
         ensures aside { NobodyLeans Self.leans };
 
     /// Returns what is done where slots have no words.
-    fn without_slots(all: &ReclaimAll) -> ReclaimAll
-        ensures { result ≡ none all.now };
+    fn without_slots(row: &ReclaimAll) -> ReclaimAll
+        ensures { result ≡ none row.now };
 }
 
 impl<T: Defers> One<T> for OfOne {
@@ -57,9 +57,9 @@ impl<T: Defers> One<T> for OfOne {
 
     fn acts_alone() {}
 
-    fn without_slots(all: &ReclaimAll) -> ReclaimAll {
-        let mut row = *all;
-        row.stands = Reclaiming::Over;
-        row
+    fn without_slots(row: &ReclaimAll) -> ReclaimAll {
+        let mut over = *row;
+        over.stands = Reclaiming::Over;
+        over
     }
 }

@@ -68,7 +68,7 @@ impl<K: Eq, V, S: Hashes<K>> One<Node<K, V>> for OneOfMaps<S> {
 
     fn acts_alone() {}
 
-    fn without_slots(all: &ReclaimAll) -> ReclaimAll {
-        ReclaimAll::clearing(all.roots)
+    fn without_slots(row: &ReclaimAll) -> ReclaimAll {
+        ReclaimAll::clearing(row.roots)
     }
 }
