@@ -7,7 +7,7 @@ use seize_views::Fixed;
 
 /// A rule by which one seat acts alone: it takes a slot, and then reclaims all.
 pub trait One<T: Defers>: Rule<T, Fixed = Fixed> + Leftovers<T> {
-    ghost use Rattle.std.specs.Prelude.{Option};
+    ghost use Rattle.std.specs.Prelude.{◌≡◌, Option};
     ghost use Rattle.seize.specs.declared.rows.reclaim_all.ReclaimAll.{ReclaimAll};
     ghost use Rattle.seize_collector.specs.declared.alone.Alone.{Alone};
     ghost use Rattle.seize_collector.specs.Empties.Asked.{OneTells, OneMayGoOn, OneMayTurn, OneIsShownAll, AllRest, NobodyLeans};
