@@ -1,5 +1,5 @@
 -- Where all seats rest, and slots have words, one begins to reclaim all.
-use Rattle.std.specs.Prelude.{◌++◌, ◌≢◌, Option, Some, None, IsSome, slice_get, slice_set, map}
+use Rattle.std.specs.Prelude.{◌++◌, ◌≢◌, Option, Some, None, IsSome, slice_get, map}
 use Rattle.std.specs.Option.{is_none}
 use Rattle.std.proofs.Common.{◌≡◌, ℕ, ◌<◌, ◌^◌, Bool, List, [], ◌∷◌, inl, inr, refl, sym, subst, ap, ◌∙◌}
 use Rattle.std.proofs.lemmas.List.{map-set}

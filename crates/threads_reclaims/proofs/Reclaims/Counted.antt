@@ -3,8 +3,8 @@ use Rattle.std.specs.Prelude.{Option, Some, None, nat_lt, ◌==◌, if◌then◌
 use Rattle.std.proofs.Common.{◌≡◌, ℕ, suc, ◌<◌, ◌^◌, Bool, true, false, List, refl, sym, subst, ap, ◌∙◌}
 use Rattle.seize_words.specs.OneMemory.Op.{Op, Out, Make, Room, Found, Stored, Exchanged, Made, Taken, Roomed}
 use Rattle.std.specs.Option.{is_none}
-use Rattle.seize_words.specs.OneMemory.Mem.{Mem, Can, Took, value_at}
-use Rattle.seize_words.specs.OneMemory.Plan.{Plan, Then, Turn, Do, Now, Seeing, Sure, Ends, May, Steps, then_as, plan_as}
+use Rattle.seize_words.specs.OneMemory.Mem.{Mem, Took, value_at}
+use Rattle.seize_words.specs.OneMemory.Plan.{Plan, Then, Turn, Do, Now, Seeing, Sure, Ends, Steps, then_as, plan_as}
 use Rattle.seize.specs.declared.rows.leave.Leave.{Leave}
 use Rattle.seize.specs.declared.rows.leave.Leaving.{Leaving}
 use Rattle.seize.specs.declared.rows.leave.Leaving.TheVariants as leaving_at
@@ -19,7 +19,7 @@ use Rattle.seize.specs.declared.rows.reclaim_all.Reclaiming.TheVariants as at
 use Rattle.seize.specs.Leave as leave
 use Rattle.seize.specs.Settle as settle
 use Rattle.seize.specs.declared.states.TheConstants.{ACTIVE, NEVER, FREE}
-use Rattle.seize.specs.ReclaimAll.{standing, next_head, next_batch, within, head_read, batch_read, root_read, left_there, next_read, given_back, plan_at, reclaim_all_plan}
+use Rattle.seize.specs.ReclaimAll.{standing, next_head, next_batch, within, head_read, batch_read, root_read, next_read, given_back, plan_at, reclaim_all_plan}
 use Rattle.map_tables.specs.Nodes.{deferred_word, was_left}
 use Rattle.map_tables.specs.declared.node.Node.{Node}
 use Rattle.many_acts.specs.Given.ScenesScene.{Scene}

@@ -1,5 +1,5 @@
 -- The state as seats knew it, where one of them comes to know something else.
-use Rattle.std.specs.Prelude.{◌≢◌, ◌⊎◌, List, Option, Some, slice_get, slice_set, map}
+use Rattle.std.specs.Prelude.{◌≢◌, ◌⊎◌, List, Some, slice_get, slice_set, map}
 use Rattle.std.proofs.Common.{◌≡◌, ℕ, inl, inr, refl, sym, subst, ap, ◌∙◌}
 use Rattle.std.proofs.lemmas.Bool.{cases_eq}
 use Rattle.std.proofs.lemmas.List.{map-set}
@@ -15,7 +15,7 @@ use Rattle.threads_rule.specs.Views.Rule.{MapsWorld}
 use Rattle.threads_rule.specs.declared.view.View.{View}
 use Rattle.threads_reclaims.specs.Reclaims.Rule.{plainly, inside, IsOne}
 use Rattle.threads_reclaims.specs.declared.sole.Sole.{Sole}
-use Rattle.threads_reclaims.specs.declared.sole.Sole.TheVariants.{Acts, Left}
+use Rattle.threads_reclaims.specs.declared.sole.Sole.TheVariants.{Acts}
 use Rattle.seize_words.proofs.General.{same_some}
 
 -- what is so of one, and of each other one of a list, is so of each of the list where that one is put in

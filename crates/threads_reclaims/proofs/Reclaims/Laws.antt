@@ -10,7 +10,6 @@ use Rattle.seize_words.specs.OneMemory.Plan.{Steps}
 use Rattle.seize.specs.World.{Rests}
 use Rattle.seize.specs.declared.rows.settle.Settled.TheVariants as settled
 use Rattle.seize_views.specs.Views.Rows.{row_of}
-use Rattle.seize_words.specs.OneMemory.Op.{Op, Out}
 use Rattle.seize.specs.declared.rows.reclaim_all.ReclaimAll.{ReclaimAll}
 use Rattle.seize.specs.declared.rows.reclaim_all.Reclaiming.{Reclaiming as Point}
 use Rattle.seize.specs.declared.rows.reclaim_all.Reclaiming.TheVariants as at
@@ -34,14 +33,13 @@ use Rattle.seize_collector.specs.Renews.Rule.{IsShown}
 use Rattle.seize_collector.specs.declared.alone.Alone.{Alone}
 use Rattle.seize_collector.specs.declared.alone.Alone.TheVariants.{Registers, Reclaims}
 use Rattle.threads_rule.specs.Views.Begun.{with_slot}
-use Rattle.threads_rule.specs.Views.Notes.{SeatIsQuiescent}
 use Rattle.threads_rule.specs.Views.Rule.{MapsWorld, Holds, KeepsFor, Leans, LeansOn}
 use Rattle.threads_rule.specs.declared.view.View.{View}
 use Rattle.threads_rule.specs.declared.view.SeatWork.{SeatWork}
 use Rattle.threads_rule.specs.declared.view.SeatWork.TheVariants.{Nothing}
 use Rattle.threads_rule.proofs.Views.Rows.{rows_turn}
 use Rattle.threads_reclaims.specs.Reclaims.Promises.{IsReclaimed, OneBegins, OneEnds, OneEmpties}
-use Rattle.threads_reclaims.specs.Reclaims.Rule.{HoldsOne, Reclaiming, TakesAt, NobodyKeeps, IsOne, plainly, inside, seeking, one_first, kept_of, acts_of, all_in, none_in, one_told}
+use Rattle.threads_reclaims.specs.Reclaims.Rule.{HoldsOne, Reclaiming, TakesAt, NobodyKeeps, IsOne, plainly, seeking, one_first, kept_of, acts_of, all_in, none_in, one_told}
 use Rattle.threads_reclaims.specs.declared.sole.Sole.{Sole}
 use Rattle.threads_reclaims.specs.declared.sole.Sole.TheVariants.{Acts, Left}
 use Rattle.threads_reclaims.proofs.Reclaims.Free.{rests_so}

@@ -1,9 +1,8 @@
 -- A list of acts has led further by something that is no act: what seats knew of maps is so still, and their calls are those of the list.
 use Rattle.std.specs.Prelude.{◌++◌, Option, Some, None}
-use Rattle.std.proofs.Common.{◌≡◌, ℕ, Bool, List, [], ◌∷◌, refl, sym, subst, ap, ◌∙◌}
-use Rattle.map_tables.specs.declared.node.Node.{Node}
+use Rattle.std.proofs.Common.{◌≡◌, ℕ, Bool, List, [], ◌∷◌, refl, sym, subst, ◌∙◌}
 use Rattle.many_acts.specs.Given.FinishesMaps.{Standing}
-use Rattle.many_acts.specs.Given.ScenesScene.{Scene, slot_of}
+use Rattle.many_acts.specs.Given.ScenesScene.{slot_of}
 use Rattle.many_acts.specs.Acts.Acts.{Answer}
 use Rattle.many_acts.specs.Acts.Doings.{Doing, MayDo}
 use Rattle.many_acts.specs.Acts.Lists.{Course, Reached, LedTo, nothing_done, on_by}

@@ -1,8 +1,8 @@
 -- Whoever reclaims all ends no owner of blocks.
 use Rattle.std.specs.Prelude.{◌++◌, Option}
-use Rattle.std.proofs.Common.{◌≡◌, ℕ, Bool, List, [], ◌∷◌, ◌⊎◌, inl, inr, refl, sym, subst, ap, ◌∙◌}
+use Rattle.std.proofs.Common.{◌≡◌, ℕ, Bool, List, [], ◌∷◌, inl, inr, refl, subst, ap, ◌∙◌}
 use Rattle.seize.specs.Law.{Effect, Entered, Left, Made, Linked, Unlinked, Deferred, Retired, Taken, Dropped, Ended, LeftOver}
-use Rattle.seize.specs.World.{World, Event, Begin, Step, Clears, Operates, Request, Register', Leave', Flush, Unregister', Begins, Happens, Runs}
+use Rattle.seize.specs.World.{World, Event, Begin, Step, Clears, Operates, Request, Register', Leave', Flush, Unregister', Begins, Runs}
 use Rattle.seize.specs.declared.rows.reclaim_all.ReclaimAll.{ReclaimAll}
 use Rattle.seize.specs.declared.rows.reclaim_all.Reclaiming.{Reclaiming}
 use Rattle.seize.specs.declared.rows.settle.Settled.{Settled}

@@ -1,6 +1,6 @@
 -- While the one that acts seeks a slot the rule of maps allows its operations; and where that has ended it reclaims all.
-use Rattle.std.specs.Prelude.{◌≢◌, ◌⊎◌, Option, Some, None, IsSome, length, slice_set, map}
-use Rattle.std.proofs.Common.{◌≡◌, ℕ, ◌<◌, ◌^◌, Bool, List, inl, inr, refl, sym, subst, ap, ◌∙◌, arith}
+use Rattle.std.specs.Prelude.{◌≢◌, Option, Some, None, IsSome, length, map}
+use Rattle.std.proofs.Common.{◌≡◌, ℕ, ◌<◌, ◌^◌, Bool, inl, inr, refl, sym, subst, ap, ◌∙◌, arith}
 use Rattle.seize_words.specs.OneMemory.Mem.{Mem, Can, Took, word_at}
 use Rattle.seize_words.specs.OneMemory.Op.{Op, Out}
 use Rattle.seize_words.specs.declared.at.At.TheVariants.{Slot}
@@ -16,7 +16,7 @@ use Rattle.many_acts.specs.Given.ScenesScene.{Scene}
 use Rattle.many_acts.proofs.Given.CallersTogether.Came.{came_reached}
 use Rattle.seize_seats.specs.Seats.State.{State, view_of, Goes}
 use Rattle.seize_views.specs.Views.Promises.{op_in, op_of}
-use Rattle.seize_views.specs.Views.Told.{HasOutcome, left_by, told as row_told}
+use Rattle.seize_views.specs.Views.Told.{left_by, told as row_told}
 use Rattle.seize_views.specs.Views.Rows.{IsShort, IsSeeking, IsQuiescent}
 use Rattle.seize_views.specs.declared.view.Fixed.{Fixed}
 use Rattle.seize_views.specs.declared.view.SlotView.{SlotView}
@@ -33,7 +33,7 @@ use Rattle.threads_rule.specs.declared.view.View.{View}
 use Rattle.threads_rule.specs.declared.view.SeatWork.{SeatWork}
 use Rattle.threads_rule.specs.declared.view.SeatWork.TheVariants.{Nothing}
 use Rattle.threads_rule.proofs.Views.Rows.{rows_go_on}
-use Rattle.threads_reclaims.specs.Reclaims.Rule.{HoldsOne, Seeking, TakesAt, IsOne, NobodyKeeps, plainly, inside, freed, kept_of, acts_of, all_in, none_in, one_told}
+use Rattle.threads_reclaims.specs.Reclaims.Rule.{HoldsOne, Seeking, TakesAt, NobodyKeeps, plainly, inside, freed, acts_of, all_in, none_in, one_told}
 use Rattle.threads_reclaims.specs.declared.sole.Sole.{Sole}
 use Rattle.threads_reclaims.specs.declared.sole.Sole.TheVariants.{Acts, Left}
 use Rattle.threads_reclaims.proofs.Reclaims.Begun.{begins_slots, begins_roots}

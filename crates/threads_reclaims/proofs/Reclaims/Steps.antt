@@ -1,7 +1,7 @@
 -- While the one that acts reclaims all each of its steps is one of the list.
 use Rattle.std.specs.Prelude.{◌≢◌, ◌++◌, ◌==◌, Option, Some, None, slice_get, slice_set, map, if◌then◌else◌}
 use Rattle.std.specs.Option.{is_none}
-use Rattle.std.proofs.Common.{◌≡◌, ℕ, suc, zero, ◌+◌, ◌<◌, ◌^◌, Bool, List, [], ◌∷◌, inl, inr, refl, sym, subst, ap, ◌∙◌, arith}
+use Rattle.std.proofs.Common.{◌≡◌, ℕ, suc, zero, ◌+◌, ◌<◌, ◌^◌, Bool, List, [], ◌∷◌, inr, refl, sym, subst, ap, ◌∙◌, arith}
 use Rattle.std.proofs.lemmas.Bool.{eq-eqb}
 use Rattle.std.proofs.lemmas.List.{map-set}
 use Rattle.seize_words.specs.OneMemory.Mem.{Mem, Can, Took, value_at}
@@ -50,7 +50,7 @@ use Rattle.threads_rule.specs.declared.view.View.{View}
 use Rattle.threads_reclaims.specs.Reclaims.Rule.{EndsIn, AreAsWere, Reclaiming, ReclaimsAt, HoldsOne, NobodyKeeps, plainly, inside, one_told, acts_of, kept_of}
 use Rattle.threads_reclaims.specs.declared.sole.Sole.{Sole}
 use Rattle.threads_reclaims.specs.declared.sole.Sole.TheVariants.{Acts, Left}
-use Rattle.threads_reclaims.proofs.Reclaims.Begun.{some_none, stage_reclaims}
+use Rattle.threads_reclaims.proofs.Reclaims.Begun.{stage_reclaims}
 use Rattle.threads_reclaims.proofs.Reclaims.Counted.{not_done}
 use Rattle.threads_reclaims.proofs.Reclaims.Inside.{set_but, one_on, at_inside}
 use Rattle.threads_reclaims.proofs.Reclaims.More.{further, led_further, still_so}

@@ -1,5 +1,5 @@
 -- Registering goes on in a memory whose slots have words, from its second step on.
-use Rattle.std.specs.Prelude.{Option, Some, Ok, Err, [], length, slice_set, slice_index_or, if◌then◌else◌}
+use Rattle.std.specs.Prelude.{Some, Ok, Err, [], length, slice_set, slice_index_or, if◌then◌else◌}
 use Rattle.std.proofs.lemmas.List.{length-set}
 use Rattle.std.proofs.Common.{◌≡◌, ℕ, ◌<◌, ◌+◌, ◌*◌, ◌^◌, Bool, inl, inr, refl, sym, subst, ap, ◌∙◌, arith}
 use Rattle.seize_words.specs.OneMemory.Mem.{Mem, Took}

@@ -1,6 +1,6 @@
 -- The rule by which one seat acts alone in a memory of maps: while it seeks a slot the rule of maps holds, and all others rest; then a list of acts has led to where
 -- it reclaims all, and what the others knew of maps is so still.
-use Rattle.std.specs.Prelude.{◌≡◌, ◌⊎◌, ℕ, zero, suc, ◌<◌, Bool, false, List, [], Option, Some, None, map, length}
+use Rattle.std.specs.Prelude.{◌≡◌, ◌⊎◌, ℕ, zero, suc, Bool, false, List, [], Option, Some, None, map}
 use Rattle.std.specs.List.{AllByRecursion}
 use Rattle.seize_words.specs.OneMemory.Mem.{Mem, Took, value_at}
 use Rattle.seize_words.specs.OneMemory.Op.{Op, Out}

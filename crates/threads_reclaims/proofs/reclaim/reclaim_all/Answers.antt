@@ -1,5 +1,4 @@
 use Rattle.std.proofs.Common.{◌≡◌, sym, subst, ap, ◌∙◌}
-use Rattle.map_tables.specs.declared.node.Node.{Node}
 use Rattle.seize_seats.specs.Seats.Errands.{RenewsInto}
 use Rattle.seize_seats.specs.Seats.Start.{WasKnown}
 use Rattle.seize_views.specs.declared.view.Fixed.{Fixed}
@@ -7,7 +6,6 @@ use Rattle.seize_collector.proofs.Empties.Alone.{like_on}
 use Rattle.threads_rule.specs.Views.Notes.{SeatIsQuiescent}
 use Rattle.threads_rule.specs.Views.Rule.{Holds}
 use Rattle.threads_reclaims.specs.Reclaims.Rule.{HoldsOne, one_first, kept_of, acts_of, all_in}
-use Rattle.threads_reclaims.specs.declared.sole.Sole.{Sole}
 use Rattle.threads_reclaims.specs.declared.sole.Sole.TheVariants.{Left}
 use Rattle.threads_reclaims.proofs.reclaim.reclaim_all.Goals as goal
 
