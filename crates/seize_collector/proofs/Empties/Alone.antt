@@ -6,7 +6,6 @@ use Rattle.seize.specs.declared.advance.Advance.{Advance}
 use Rattle.seize.specs.declared.advance.Advance.TheVariants as progress
 use Rattle.seize.specs.declared.rows.register.Register.{Register}
 use Rattle.std.proofs.Common.{◌≡◌, ℕ, Bool, refl, sym, subst, ap, ◌∙◌}
-use Rattle.seize.specs.World.{World}
 use Rattle.seize_seats.specs.Seats.Owned.{BaseId, IsLike}
 use Rattle.seize_seats.specs.Seats.State.{Turns}
 use Rattle.seize_collector.specs.Empties.Asked.{HasSought, HasTold, HasPassed, OneTells, OneMayTurn}

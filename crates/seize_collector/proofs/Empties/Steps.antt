@@ -24,7 +24,7 @@ use Rattle.seize.specs.Settle as settle
 use Rattle.seize.specs.ReclaimAll.{standing, next_head, next_batch, within, head_read, batch_read, root_read, given_back, next_read, reclaim_all_plan, plan_at}
 use Rattle.seize_words.proofs.General.{same_some}
 use Rattle.seize_views.specs.Views.Promises.{op_in}
-use Rattle.seize_views.specs.Views.Told.{FollowsBy, shown_by}
+use Rattle.seize_views.specs.Views.Told.{FollowsBy}
 use Rattle.seize_views.proofs.Views.Looks.{IsNow, LooksOnce, rest_of, once}
 use Rattle.seize_views.proofs.Views.Makes.{IsDo, IsNoRewrite, may_by, was_made}
 use Rattle.seize_collector.specs.Renews.One.{op_of_one, Passes}

@@ -1,5 +1,5 @@
 -- What is asked of a rule by which one seat acts alone: what tells it how far it has come, that each of its steps may be taken, and that others rest.
-use Rattle.std.specs.Prelude.{◌≡◌, ℕ, ◌<◌, ◌^◌, Bool, Option, Some, None}
+use Rattle.std.specs.Prelude.{◌≡◌, ℕ, ◌<◌, ◌^◌, Bool, Option, Some}
 use Rattle.seize_words.specs.OneMemory.Op.{Op, Out}
 use Rattle.seize_words.specs.OneMemory.Plan.{Turn, Now}
 use Rattle.seize.specs.declared.advance.Advance.{Advance}

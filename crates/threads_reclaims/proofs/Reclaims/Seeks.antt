@@ -64,9 +64,6 @@ module _ {K V S : Type 0} (same : K → K → Bool) (hash : S → K → ℕ) (fi
   -- an operation was made, with this answer, and the seat knows this then
   module _ (op : Op (Node K V)) (makes : op_in (register_plan {T = Node K V} c) ≡ Some op) (out : Out (Node K V)) (m : Mem (Node K V)) (took : Took s.memory op out m)
       (g : Goes (Holds same hash fixed) KeepsFor (inside s) m id (told same hash v op out)) where
-    w : View K V S
-    w = g.0
-
     observed : observed_by same hash v v.map Nothing op out g.0
     observed = subst (λ (k : SeatWork K V S). observed_by same hash v v.map k op out g.0) t.4 g.4
 
