@@ -4,6 +4,7 @@
 mod alone;
 mod collector;
 mod law;
+mod one;
 mod reclaim;
 mod rule;
 mod sole;
@@ -13,7 +14,8 @@ mod tests;
 pub use alone::Alone;
 pub use collector::Collector;
 pub use law::{one_acts_alone, one_reclaims_all};
-pub use reclaim::reclaim_all;
+pub use one::One;
+pub use reclaim::{acts, reclaim_all};
 pub use rule::{OfOne, Passing};
 pub use seize::IdSource;
 pub use seize_shared::{

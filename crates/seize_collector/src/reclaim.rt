@@ -3,38 +3,40 @@ ghost use Rattle.std.specs.Prelude.{◌≡◌, ◌<◌, ◌^◌};
 ghost use Rattle.seize.specs.declared.rows.reclaim_all.Reclaiming.TheVariants.{Over};
 ghost use Rattle.seize.specs.declared.rows.reclaim_all.ReclaimAll.{ReclaimAll};
 ghost use Rattle.seize.specs.declared.rows.register.Registering.TheVariants.{Begin};
+ghost use Rattle.seize.specs.ReclaimAll.{reclaiming_all};
 ghost use Rattle.seize_seats.specs.Seats.Owned.{IsLike};
-ghost use Rattle.seize_views.specs.Views.Begun.{seeker_at};
-ghost use Rattle.seize_collector.specs.declared.alone.Alone.TheVariants.{Registers};
 ghost use Rattle.seize_collector.specs.Renews.Emptied.{IsEmptied};
-ghost use Rattle.seize_collector.specs.Empties.Emptying.{IsUnderWay};
+ghost use Rattle.seize_collector.specs.Empties.Emptying.{IsUnderWay, IsSeeking};
 
+use crate::one::One;
 use crate::sole::Sole;
 use crate::{OfOne, one_acts_alone};
 use core::mem::replace_with;
-use seize::rows::Defers;
+use seize::rows::{Defers, ReclaimAll};
 use seize_blocks::{Blocks, Home, Seat};
 use seize_views::{Fixed, OfRows};
 
-/// Reclaims all that waits, by a seat that has just come and has the memory to itself. It answers the seat.
-fn acts<T: Defers + Drop>(
-    blocks: &Blocks<T, OfOne>,
-    seat: Seat<T, OfOne>,
+/// Reclaims all that waits, with as many roots, by a seat that has the memory to itself. It answers the seat.
+pub fn acts<T: Defers + Drop, R: One<T>>(
+    blocks: &Blocks<T, R>,
+    seat: Seat<T, R>,
     batch_size: u64,
-) -> Seat<T, OfOne>
+    roots: u64,
+) -> Seat<T, R>
     requires own { seat.base ≡ blocks.now.words.id.views_name }
     requires sized { blocks.now.words.fixed.batch_size ≡ batch_size }
-    requires begins { seat.view ≡ Registers (seeker_at 0 Begin) batch_size }
-    ensures own { result.base ≡ blocks.now.words.id.views_name }
+    requires begins { IsSeeking (reclaiming_all batch_size roots) 0 Begin (R.acts seat.view) (R.all seat.view) }
+    ensures own { (result.base ≡ blocks.now.words.id.views_name) × (R.beside result.view ≡ R.beside seat.view) }
     ensures sized { batch_size < 2 ^ 64 }
-    ensures over { (c : ReclaimAll) × (c.stands ≡ Over) × IsUnderWay c result.view }
+    ensures over { (c : ReclaimAll) × (c.stands ≡ Over) × IsUnderWay c (R.acts result.view) }
 {
+    let mut row = ReclaimAll::reclaim_all(batch_size, roots);
     let mut sole = Sole {
         blocks,
         seat,
         near: 0,
     };
-    sole.reclaims(batch_size);
+    sole.reclaims(&mut row);
     let Sole {
         blocks: _,
         seat,
@@ -52,7 +54,7 @@ fn emptied<T: Defers + Drop>(home: Home<T, OfRows>, fixed: &Fixed) -> (Home<T, O
 {
     one_acts_alone::<T>();
     let (home, seat) = home.alone::<OfOne>(fixed);
-    let seat = acts(&home.blocks, seat, fixed.batch_size);
+    let seat = acts(&home.blocks, seat, fixed.batch_size, 0);
     (home.used::<OfRows>(seat, fixed), ())
 }
 

@@ -1,6 +1,7 @@
 //! The rule while one seat alone acts.
 use crate::alone::Alone;
-use seize::rows::Defers;
+use crate::one::One;
+use seize::rows::{Defers, Leftovers, NoneLeft};
 use seize_blocks::{Rule, Turn};
 use seize_views::Fixed;
 use std::marker::PhantomData;
@@ -41,12 +42,21 @@ impl<T: Defers> Rule<T> for OfOne {
     ghost leaning_stay = { λ _ _ _ _ _ _ none. none };
 }
 
-/// The turn of a step of its machine that makes no operation.
-pub struct Passing<T>(PhantomData<T>);
-
-impl<T: Defers> Turn<Fixed, Alone<T>> for Passing<T> {
+impl<T> Leftovers<T> for OfOne {
     ghost use Rattle.seize.specs.ReclaimAll.{none_left};
-    ghost use Rattle.seize_collector.specs.Renews.One.{Passes};
 
-    ghost to = { λ _. Passes T.defers none_left };
+    ghost left = { none_left };
+
+    fn is_left(value: &T) -> bool {
+        NoneLeft::is_left(value)
+    }
+}
+
+/// The turn of a step of its machine that makes no operation.
+pub struct Passing<T, R>(PhantomData<(T, R)>);
+
+impl<T: Defers, R: One<T>> Turn<Fixed, R::View> for Passing<T, R> {
+    ghost use Rattle.seize_collector.specs.Empties.Asked.{HasPassed};
+
+    ghost to = { λ _. HasPassed R.acts T.defers R.left R.beside };
 }

@@ -22,17 +22,18 @@ use Rattle.seize.specs.Leave as leave
 use Rattle.seize.specs.Settle.{settle_plan}
 use Rattle.seize.specs.Settle as settle
 use Rattle.seize.specs.ReclaimAll.{standing, next_head, next_batch, within, head_read, batch_read, root_read, given_back, next_read, reclaim_all_plan, plan_at}
+use Rattle.seize_words.proofs.General.{same_some}
 use Rattle.seize_views.specs.Views.Promises.{op_in}
-use Rattle.seize_views.specs.Views.Told.{FollowsBy, shown_by}
+use Rattle.seize_views.specs.Views.Told.{FollowsBy}
 use Rattle.seize_views.proofs.Views.Looks.{IsNow, LooksOnce, rest_of, once}
 use Rattle.seize_views.proofs.Views.Makes.{IsDo, IsNoRewrite, may_by, was_made}
-use Rattle.seize_collector.specs.Renews.One.{op_of_one, one_observed, shown_to_one, Passes, OneContinues}
+use Rattle.seize_collector.specs.Renews.One.{op_of_one, Passes}
 use Rattle.seize_collector.specs.Renews.Rule.{ReclaimsOn}
 use Rattle.seize_collector.specs.declared.alone.Alone.{Alone}
 use Rattle.seize_collector.specs.declared.alone.Alone.TheVariants.{Registers, Reclaims}
 use Rattle.seize_collector.specs.Empties.Emptying.{IsUnderWay, left_of, settling_over, leaving_over, passes_at}
-use Rattle.seize_collector.specs.Empties.Made.{HasAlone, Can, Has, shown_of}
-use Rattle.seize_collector.specs.declared.sole.Sole.{Sole}
+use Rattle.seize_collector.specs.Empties.Asked.{OneTells, HasPassed}
+use Rattle.seize_collector.specs.Empties.Made.{HasAlone, Can, Has, shown_as, shown_of}
 
 module _ {T A B : Type 0} (f : A → B) where
   do_as : (plan : Plan T A) → IsDo plan → IsDo (plan_as f plan)
@@ -213,82 +214,83 @@ module _ {T : Type 0} (defers : T → Option ℕ) (left_over : T → Bool) where
   not_rewrite v b x e = subst IsNoRewrite e (one_none v)
 
 -- ---- a step over a memory of which it is known what may be done, and what it told
-module _ {T : Type 0} (defers : T → Option ℕ) (left_over : T → Bool) where
-  abbrev M : Type 0
-  M = Sole T
-
-  abbrev view : M → Alone T
-  view m = m.seat.view
-
+module _ {T M V B X : Type 0} (defers : T → Option ℕ) (left_over : T → Bool) (blocks : M → B) (view : M → V) (acts : V → Option (Alone T)) (all : V → ReclaimAll) (none : ReclaimAll → ReclaimAll)
+    (beside : V → X) (then_ : V → Op T → Out T → V → Type 0) (owns : M → ℕ → Type 0) (allowed : M → Op T → Type 0) where
   abbrev CanOne : M → Op T → Type 0
-  CanOne = Can defers left_over
+  CanOne = Can owns allowed
 
   abbrev HasOne : M → Op T → Out T → M → Type 0
-  HasOne = Has defers left_over
+  HasOne = Has blocks view then_
+
+  abbrev one : M → Option (Alone T)
+  one m = acts (view m)
 
   abbrev shown : M → ℕ → Option T
-  shown = shown_of defers left_over
+  shown = shown_of defers left_over one
 
   abbrev plan : ReclaimAll → Plan T (ReclaimAll × Settled T)
   plan c = reclaim_all_plan defers left_over c
 
-  shows : (n : M) (c : ReclaimAll) (seen : Option (ℕ × T)) (left : ℕ) → view n ≡ Reclaims c seen left → shown n ≡ shown_by seen
-  shows n c seen left e = ap (shown_to_one defers left_over) e
+  -- his next operation may be made
+  abbrev pub MayGoOn : M → Type 0
+  MayGoOn m = (a : Alone T) (op : Op T) → one m ≡ Some a → op_of_one defers left_over a ≡ Some op → allowed m op
 
-  has_alone : (m : M) (op : Op T) → op_of_one defers left_over (view m) ≡ Some op → HasAlone defers left_over m op
-  has_alone m (Rewrite b x) e = absurd (not_rewrite defers left_over (view m) b x e)
-  has_alone m (Load at) e = tt
-  has_alone m (Store at word) e = tt
-  has_alone m (Swap at word) e = tt
-  has_alone m (Add at by) e = tt
-  has_alone m (Or at bits) e = tt
-  has_alone m (Exchange at old new) e = tt
-  has_alone m (Make x words) e = tt
-  has_alone m (Take b) e = tt
-  has_alone m (Room b) e = tt
+  has_alone : (m : M) (a : Alone T) (op : Op T) → op_of_one defers left_over a ≡ Some op → HasAlone (owns m) op
+  has_alone m a (Rewrite b x) e = absurd (not_rewrite defers left_over a b x e)
+  has_alone m a (Load at) e = tt
+  has_alone m a (Store at word) e = tt
+  has_alone m a (Swap at word) e = tt
+  has_alone m a (Add at by) e = tt
+  has_alone m a (Or at bits) e = tt
+  has_alone m a (Exchange at old new) e = tt
+  has_alone m a (Make x words) e = tt
+  has_alone m a (Take b) e = tt
+  has_alone m a (Room b) e = tt
 
-  -- his next operation he may make
-  pub can_make : OneContinues defers left_over → (m : M) (op : Op T) → op_of_one defers left_over (view m) ≡ Some op → CanOne m op
-  can_make law m op e = record { alone = has_alone m op e; may = law m.blocks.now.words.fixed m.seat.id (view m) op m.sized e }
+  pub can_make : (m : M) → MayGoOn m → (a : Alone T) (op : Op T) → one m ≡ Some a → op_of_one defers left_over a ≡ Some op → CanOne m op
+  can_make m law a op is e = record { alone = has_alone m a op e; may = law a op is e }
 
-  module _ (law : OneContinues defers left_over) (m : M) (c : ReclaimAll) (under : IsUnderWay c (view m)) (does : IsDo (plan c)) where
-    tells : (op : Op T) (out : Out T) (n : M) → HasOne m op out n → ReclaimsOn defers left_over c under.1 out (view n)
-    tells op out n made = subst (λ (v : Alone T). one_observed defers left_over v op out (view n)) under.2 made.1
+  module _ (tells : OneTells acts all none defers left_over beside then_) (m : M) (law : MayGoOn m) (c : ReclaimAll) (under : IsUnderWay c (one m)) (does : IsDo (plan c)) where
+    told : (op : Op T) (out : Out T) (n : M) → HasOne m op out n → (a : Alone T) × (one n ≡ Some a) × ReclaimsOn defers left_over c under.1 out a
+    told op out n made = (tells (view m) (view n) (Reclaims c under.0 under.1) op out under.2 made.1).0
 
-    follows : (op : Op T) (out : Out T) (n : M) (made : HasOne m op out n) → FollowsBy (shown n) (plan c) out (tells op out n made).end
+    follows : (op : Op T) (out : Out T) (n : M) (made : HasOne m op out n) → FollowsBy (shown n) (plan c) out (told op out n made).2.end
     follows op out n made =
-        let g = tells op out n made in
-        subst (λ (f : ℕ → Option T). FollowsBy f (plan c) out g.end) (sym (shows n g.end.0 g.seen g.now g.view)) g.follows
+        let g = told op out n made in
+        subst (λ (o : Option (Alone T)). FollowsBy (shown_as defers left_over o) (plan c) out g.2.end) (sym (g.1 ∙ ap (λ (a : Alone T). Some a) g.2.view)) g.2.follows
 
     pub may_step : May CanOne HasOne shown m (plan c)
     may_step =
-        may_by CanOne HasOne shown m (plan c) does (λ op e. can_make law m op (ap (op_of_one defers left_over) under.2 ∙ e))
-        (λ op out n e made. ((tells op out n made).end, follows op out n made)) (λ out. once_at defers left_over c c.stands out)
+        may_by CanOne HasOne shown m (plan c) does (λ op e. can_make m law (Reclaims c under.0 under.1) op under.2 e)
+        (λ op out n e made. ((told op out n made).2.end, follows op out n made)) (λ out. once_at defers left_over c c.stands out)
 
     pub has_stepped : (n : M) (end : ReclaimAll × Settled T) → Steps HasOne shown m (plan c) n end
-        → IsUnderWay end.0 (view n) × (left_of (view n) < left_of (view m)) × (n.blocks ≡ m.blocks)
+        → IsUnderWay end.0 (one n) × (left_of (one n) < left_of (one m)) × (blocks n ≡ blocks m) × (beside (view n) ≡ beside (view m))
     has_stepped n end st =
-        let k = was_made CanOne HasOne shown m (plan c) n end does st in let g = tells k.0 k.1 n k.2 in
-        let same : end ≡ g.end = k.3 g.end (follows k.0 k.1 n k.2) in (
-          (g.seen, g.now, g.view ∙ ap (λ (x : ReclaimAll × Settled T). Reclaims x.0 g.seen g.now) (sym same)),
-          (let before = ap left_of under.2 in let after = ap left_of g.view in let falls = g.falls in omega (arith, before, after, falls)),
+        let k = was_made CanOne HasOne shown m (plan c) n end does st in let t = told k.0 k.1 n k.2 in let g = t.2 in
+        let same : end ≡ g.end = k.3 g.end (follows k.0 k.1 n k.2) in
+        let is : one n ≡ Some (Reclaims g.end.0 g.seen g.now) = t.1 ∙ ap (λ (a : Alone T). Some a) g.view in (
+          (g.seen, g.now, is ∙ ap (λ (x : ReclaimAll × Settled T). Some (Reclaims x.0 g.seen g.now)) (sym same)),
+          (let before = ap left_of under.2 in let after = ap left_of is in let falls = g.falls in omega (arith, before, after, falls)),
           k.2.0,
+          (tells (view m) (view n) (Reclaims c under.0 under.1) k.0 k.1 under.2 k.2.1).1,
         )
 
   -- a step that makes no operation, once the seat has turned
-  module _ (m : M) (c : ReclaimAll) (v : Alone T) (under : IsUnderWay c v) (passed : Passes defers left_over v (view m)) where
-    turned : Passes defers left_over (Reclaims c under.0 under.1) (view m)
-    turned = subst (λ (x : Alone T). Passes defers left_over x (view m)) under.2 passed
+  module _ (m : M) (c : ReclaimAll) (v : V) (under : IsUnderWay c (acts v)) (passed : HasPassed acts defers left_over beside v (view m)) where
+    turned : Passes defers left_over (Reclaims c under.0 under.1) passed.1
+    turned = subst (λ (x : Alone T). Passes defers left_over x passed.1) (same_some passed.0 (Reclaims c under.0 under.1) (sym passed.2 ∙ under.2)) passed.4
 
     pub may_pass : May CanOne HasOne shown m (plan c)
     may_pass = subst (λ (p : Plan T (ReclaimAll × Settled T)). May CanOne HasOne shown m p) (sym turned.3) tt
 
     pub has_passed : (n : M) (end : ReclaimAll × Settled T) → Steps HasOne shown m (plan c) n end
-        → IsUnderWay end.0 (view n) × (left_of (view n) < left_of v) × (n.blocks ≡ m.blocks)
+        → IsUnderWay end.0 (one n) × (left_of (one n) < left_of (acts v)) × (blocks n ≡ blocks m) × (beside (view n) ≡ beside v)
     has_passed n end st =
         let k = subst (λ (p : Plan T (ReclaimAll × Settled T)). Steps HasOne shown m p n end) turned.3 st in
-        let is : view n ≡ Reclaims turned.0 None turned.2 = ap view k.0 ∙ turned.5 in (
-          (None, turned.2, is ∙ ap (λ (x : ReclaimAll × Settled T). Reclaims x.0 None turned.2) (sym k.1)),
+        let is : one n ≡ Some (Reclaims turned.0 None turned.2) = ap one k.0 ∙ passed.3 ∙ ap (λ (a : Alone T). Some a) turned.5 in (
+          (None, turned.2, is ∙ ap (λ (x : ReclaimAll × Settled T). Some (Reclaims x.0 None turned.2)) (sym k.1)),
           (let before = ap left_of under.2 in let after = ap left_of is in let falls = turned.4 in omega (arith, before, after, falls)),
-          ap (λ (x : M). x.blocks) k.0,
+          ap blocks k.0,
+          ap (λ (x : M). beside (view x)) k.0 ∙ passed.5,
         )

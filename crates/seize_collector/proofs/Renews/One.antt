@@ -30,7 +30,7 @@ use Rattle.seize_collector.proofs.Renews.Registering.{registering_goes_on}
 use Rattle.seize_collector.proofs.Renews.Steps.{reclaiming_goes_on, reclaiming_turns}
 
 -- who has nothing under way has no row
-no_row : {T : Type 0} (v : SlotView T) → IsQuiescent v → row_of v ≡ world.Rests
+pub no_row : {T : Type 0} (v : SlotView T) → IsQuiescent v → row_of v ≡ world.Rests
 no_row view.Rests r = refl
 no_row (view.Registers c) r = absurd r
 no_row (view.Outside t) r = refl

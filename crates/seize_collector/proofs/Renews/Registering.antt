@@ -40,29 +40,29 @@ use Rattle.seize_collector.proofs.Renews.Roots.{came_quiet, step_stays}
 use Rattle.seize_words.proofs.General.{same_some}
 
 -- where there are no slots, none has a word
-no_word : (slots : List (List ℕ)) → length slots ≡ 0 → slot_word slots 0 HEAD ≡ None
+pub no_word : (slots : List (List ℕ)) → length slots ≡ 0 → slot_word slots 0 HEAD ≡ None
 no_word [] none = refl
 no_word (x ∷ slots) none = absurd (omega (arith, none))
 
 -- taking a slot has come so far, in this memory
-abbrev IsWell : {T : Type 0} → Mem T → Register × Advance ℕ → Type 0
+abbrev pub IsWell : {T : Type 0} → Mem T → Register × Advance ℕ → Type 0
 IsWell m (d, progress.Done t) = Unit {0}
 IsWell m (d, progress.Refused fault) = ((d.slot ≡ 0) × (length m.slots ≡ 0)) ⊎ ((d.slot ≢ 0) × (0 < length m.slots))
 IsWell m (d, _) = (d.enters ≡ false) × IsSeeking d.stands × SeeksAt m d d.stands
 
 module _ {T : Type 0} (m : Mem T) where
-  well_either : (b : Bool) (x y : Register × Advance ℕ) → IsWell m x → IsWell m y → IsWell m (if b then x else y)
+  pub well_either : (b : Bool) (x y : Register × Advance ℕ) → IsWell m x → IsWell m y → IsWell m (if b then x else y)
   well_either true x y p q = p
   well_either false x y p q = q
 
-  well_further : (c : Register) → c.enters ≡ false → 0 < length m.slots → IsWell m (further c)
+  pub well_further : (c : Register) → c.enters ≡ false → 0 < length m.slots → IsWell m (further c)
   well_further c short there = by (nat_lt c.slot LAST_SLOT) refl
     where
       by : (b : Bool) → nat_lt c.slot LAST_SLOT ≡ b → IsWell m (if b then going (record c { slot = c.slot + 1 }) at.Look else refused c SlotsUsedUp)
       by true e = (short, tt, there)
       by false e = inr ((λ z. let k : LAST_SLOT ≤ c.slot = grind (arith, e) in omega (arith, k, z)), there)
 
-  well_taking : (c : Register) (seen : ℕ) (bucket : Option ℕ) → bucket_needed c.slot ≡ bucket → c.enters ≡ false → 0 < length m.slots → IsWell m (taking c seen bucket)
+  pub well_taking : (c : Register) (seen : ℕ) (bucket : Option ℕ) → bucket_needed c.slot ≡ bucket → c.enters ≡ false → 0 < length m.slots → IsWell m (taking c seen bucket)
   well_taking c seen (Some bucket) is short there = (short, tt, ((λ z. first_needs_none (ap bucket_needed (sym z) ∙ is)), there))
     where
       first_needs_none : bucket_needed 0 ≡ Some bucket → ⊥

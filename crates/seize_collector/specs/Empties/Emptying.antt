@@ -1,5 +1,5 @@
 -- What the one knows who has the memory to himself: how far he has come, and which steps of his machine make no operation.
-use Rattle.std.specs.Prelude.{◌≡◌, ℕ, ◌+◌, Bool, true, false, Option, nat_lt}
+use Rattle.std.specs.Prelude.{◌≡◌, ℕ, ◌+◌, Bool, true, false, Option, Some, nat_lt}
 use Rattle.seize.specs.declared.states.TheConstants.{LAST_SLOT}
 use Rattle.seize.specs.declared.rows.leave.Leave.{Leave}
 use Rattle.seize.specs.declared.rows.leave.Leaving.{Leaving}
@@ -10,28 +10,32 @@ use Rattle.seize.specs.declared.rows.settle.Settling.TheVariants as settling_at
 use Rattle.seize.specs.declared.rows.reclaim_all.ReclaimAll.{ReclaimAll}
 use Rattle.seize.specs.declared.rows.reclaim_all.Reclaiming.{Reclaiming}
 use Rattle.seize.specs.declared.rows.reclaim_all.Reclaiming.TheVariants as at
+use Rattle.seize.specs.declared.rows.register.Registering.{Registering}
 use Rattle.seize.specs.declared.rows.register.Registering.TheVariants as register_at
 use Rattle.seize_views.specs.Views.Begun.{seeker_at}
-use Rattle.seize_collector.specs.Renews.Rule.{all_of}
 use Rattle.seize_collector.specs.declared.alone.Alone.{Alone}
 use Rattle.seize_collector.specs.declared.alone.Alone.TheVariants.{Registers, Reclaims}
 
 -- it reclaims all, and stands so
-abbrev pub IsUnderWay : {T : Type 0} → ReclaimAll → Alone T → Type 0
-IsUnderWay {T} c v = (seen : Option (ℕ × T)) × (left : ℕ) × (v ≡ Reclaims c seen left)
+abbrev pub IsUnderWay : {T : Type 0} → ReclaimAll → Option (Alone T) → Type 0
+IsUnderWay {T} c v = (seen : Option (ℕ × T)) × (left : ℕ) × (v ≡ Some (Reclaims c seen left))
 
 -- within so many further steps
-abbrev pub left_of : {T : Type 0} → Alone T → ℕ
-left_of (Reclaims c seen left) = left
+abbrev pub left_of : {T : Type 0} → Option (Alone T) → ℕ
+left_of (Some (Reclaims c seen left)) = left
 left_of _ = 0
 
--- this slot is the next one to be looked at, if there is such a slot; else reclaiming begins
-abbrev pub SeeksBy : {T : Type 0} → Bool → ℕ → ℕ → Alone T → Type 0
-SeeksBy true size slot v = v ≡ Registers (seeker_at slot register_at.Look) size
-SeeksBy false size slot v = IsUnderWay (all_of size) v
+-- it seeks a slot, stands so with this one, and is to reclaim all by this then
+abbrev pub IsSeeking : {T : Type 0} → ReclaimAll → ℕ → Registering → Option (Alone T) → ReclaimAll → Type 0
+IsSeeking all slot stands v then_all = (v ≡ Some (Registers (seeker_at slot stands) all.batch_size)) × (then_all ≡ all)
 
-abbrev pub Seeks : {T : Type 0} → ℕ → ℕ → Alone T → Type 0
-Seeks size slot v = SeeksBy (nat_lt slot (LAST_SLOT + 1)) size slot v
+-- this slot is the next one to be looked at, if there is such a slot; else it reclaims all
+abbrev pub SeeksBy : {T : Type 0} → Bool → ReclaimAll → ℕ → Option (Alone T) → ReclaimAll → Type 0
+SeeksBy true all slot v then_all = IsSeeking all slot register_at.Look v then_all
+SeeksBy false all slot v then_all = IsUnderWay all v
+
+abbrev pub Seeks : {T : Type 0} → ReclaimAll → ℕ → Option (Alone T) → ReclaimAll → Type 0
+Seeks all slot v then_all = SeeksBy (nat_lt slot (LAST_SLOT + 1)) all slot v then_all
 
 -- whether the next step makes no operation
 abbrev pub settling_over : Settling → Bool

@@ -8,7 +8,7 @@ use Rattle.seize.specs.declared.rows.reclaim_all.Reclaiming.TheVariants as at
 use Rattle.seize.specs.declared.rows.register.Registering.TheVariants as register_at
 use Rattle.seize.specs.declared.rows.settle.Settled.{Settled}
 use Rattle.seize.specs.Register.{register_plan}
-use Rattle.seize.specs.ReclaimAll.{reclaim_all_plan}
+use Rattle.seize.specs.ReclaimAll.{standing, reclaim_all_plan}
 use Rattle.seize.specs.World.{World}
 use Rattle.seize_seats.specs.Seats.Errands.{RenewsTo, RenewsFrom}
 use Rattle.seize_seats.specs.Seats.Lendings.{VisibleTo, IsValueOf}
@@ -22,13 +22,22 @@ use Rattle.seize_views.specs.Views.Told.{shown_by}
 use Rattle.seize_views.specs.declared.view.Fixed.{Fixed}
 use Rattle.seize_views.specs.declared.view.Noted.{Noted}
 use Rattle.seize_collector.specs.Renews.Emptied.{IsEmptied}
-use Rattle.seize_collector.specs.Renews.Rule.{told, HoldsAlone, KeepsNone}
+use Rattle.seize_collector.specs.Renews.Rule.{told, HoldsAlone, KeepsNone, all_of}
 use Rattle.seize_collector.specs.declared.alone.Alone.{Alone}
 use Rattle.seize_collector.specs.declared.alone.Alone.TheVariants.{Registers, Reclaims}
 
 -- who acts begins to take a slot
 abbrev pub one_first : {T : Type 0} → Fixed → Alone T
 one_first fixed = Registers (seeker_at 0 register_at.Begin) fixed.batch_size
+
+-- what it reclaims all by, once it has sought a slot: roots are the users' own
+abbrev pub all_of_one : {T : Type 0} → Alone T → ReclaimAll
+all_of_one (Registers c size) = all_of size
+all_of_one (Reclaims c seen left) = c
+
+-- without slots it has nothing to do
+abbrev pub none_of_one : ReclaimAll → ReclaimAll
+none_of_one c = standing c at.Over
 
 -- a seat that notes so has nothing under way
 abbrev pub NotedRests : {T : Type 0} → Noted T → Type 0

@@ -1,30 +1,31 @@
 //! The one who has the memory to himself, as the memory of the machines that he steps.
-use crate::one_acts_alone;
+use crate::one::One;
 use crate::sole::Sole;
 use seize::rows::Defers;
 use seize_words::{At, Fault, Look, Memory};
 
-impl<'a, T: Defers> Look<T> for Sole<'a, T> {
-    ghost use Rattle.seize.specs.ReclaimAll.{none_left};
+impl<'a, T: Defers, R: One<T>> Look<T> for Sole<'a, T, R> {
+    ghost use Rattle.seize_seats.specs.Seats.State.{Allows, Owns};
     ghost use Rattle.seize_collector.specs.Empties.Made.{Can, Has, shown_of};
 
-    ghost can = { Can T.defers none_left };
+    ghost can = { Can (λ c. Owns (R.holds c.blocks.now.words.fixed) R.keeps c.seat.id c.seat.view)
+        (λ c op. Allows (R.holds c.blocks.now.words.fixed) R.keeps c.seat.id c.seat.view op (R.then c.seat.view op)) };
 
-    ghost took = { Has T.defers none_left };
+    ghost took = { Has (λ c. c.blocks) (λ c. c.seat.view) R.then };
 
-    ghost shown = { shown_of T.defers none_left };
+    ghost shown = { shown_of T.defers R.left (λ c. R.acts c.seat.view) };
 
     fn load(&mut self, at: At) -> u64 {
         self.blocks.load(&mut self.seat, at)
     }
 
     fn value(&self, block: u64) -> &T {
-        one_acts_alone::<T>();
+        R::acts_alone();
         self.blocks.value(&self.seat, block)
     }
 }
 
-impl<'a, T: Defers> Memory<T> for Sole<'a, T> {
+impl<'a, T: Defers, R: One<T>> Memory<T> for Sole<'a, T, R> {
     fn store(&mut self, at: At, word: u64) {
         self.blocks.store(&mut self.seat, at, word);
     }

@@ -1,33 +1,55 @@
-use Rattle.seize.specs.ReclaimAll.{none_left}
-use Rattle.std.proofs.Common.{◌≡◌, ◌∙◌, ap, subst, sym}
-use Rattle.seize_collector.specs.Renews.Rule.{all_of}
-use Rattle.seize_words.specs.OneMemory.Op.{Load, Room}
+use Rattle.std.proofs.Common.{refl, sym, ◌∙◌}
+use Rattle.seize_seats.specs.Seats.State.{Allows, Owns}
+use Rattle.seize_words.specs.OneMemory.Op.{Load, Found}
 use Rattle.seize_words.specs.declared.at.At.TheVariants.{Slot}
 use Rattle.seize.specs.declared.states.TheConstants.{HEAD}
-use Rattle.seize_collector.specs.Renews.One.{op_of_one}
-use Rattle.seize_collector.proofs.Empties.Seeking.{seen_needs, free_head}
+use Rattle.seize.specs.declared.rows.register.Registering.TheVariants.{Look}
+use Rattle.seize_views.specs.Views.Begun.{seeker_at}
+use Rattle.seize_collector.specs.declared.alone.Alone.TheVariants.{Registers}
+use Rattle.seize_collector.proofs.Empties.Seeking.{seen_needs, seen_free, seen_taken, free_head, taken_head, stays}
 use Rattle.seize_collector.proofs.Empties.Steps.{can_make}
-use Rattle.seize_collector.specs.Empties.Emptying.{IsUnderWay}
 use Rattle.seize_collector.proofs.sole.Sole.tries.Goals as goal
-use Rattle.seize_collector.proofs.sole.Sole.tries.Goals.{in-Some+else-is_err, in_default}
 
 pub load-seen-requires : goal.load-seen-requires
 load-seen-requires g c =
-    can_make g.T.Defers.defers none_left (c.one_acts_alone.ensures.goes g.T.Defers.defers none_left) c.args.self.now (Load (Slot c.args.slot HEAD))
-    (ap (op_of_one g.T.Defers.defers none_left) c.requires.seeks)
+    let x = c.args.self.now in
+    can_make g.T.Defers.defers g.R.Leftovers.left (λ m. m.blocks) (λ m. m.seat.view) g.R.One.acts g.R.One.all g.R.One.none g.R.One.beside g.R.Rule.then
+    (λ m. Owns (g.R.Rule.holds m.blocks.now.words.fixed) g.R.Rule.keeps m.seat.id m.seat.view)
+    (λ m op. Allows (g.R.Rule.holds m.blocks.now.words.fixed) g.R.Rule.keeps m.seat.id m.seat.view op (g.R.Rule.then m.seat.view op)) x
+    (λ a op is e. c.acts_alone.ensures.goes x.blocks.now.words.fixed x.seat.id x.seat.view a op x.sized is e)
+    (Registers (seeker_at c.args.slot Look) c.args.all.now.batch_size) (Load (Slot c.args.slot HEAD)) c.requires.seeks.0 refl
 
-pub room-requires : goal.room-requires
-room-requires g c =
-    let defers = g.T.Defers.defers in let left_over = none_left in let x = c.args.self.now in let seen = c.load-seen.result in
-    can_make defers left_over (c.one_acts_alone.ensures.goes g.T.Defers.defers none_left) c.load-seen.new.self (Room c.in-Some.bucket)
-    (ap (op_of_one defers left_over) (seen_needs defers left_over x.seat.view c.load-seen.new.self.seat.view x.blocks.now.words.fixed.batch_size c.args.slot seen c.in-Some.bucket
-    (sym c.in-Some.is ∙ c.needed_bucket.ensures) (free_head seen c.else-seen-ne-NEVER.either) c.requires.seeks c.load-seen.ensures.1))
+pub returns-then-seen-ne-FREE-clause-on : goal.returns-then-seen-ne-FREE-clause-on
+returns-then-seen-ne-FREE-clause-on g c = λ _.
+    seen_taken g.T.Defers.defers g.R.Leftovers.left g.R.One.acts g.R.One.all g.R.One.none g.R.One.beside g.R.Rule.then c.acts_alone.ensures.tells c.args.self.now.seat.view c.load-seen.new.self.seat.view c.args.all.now c.args.slot c.load-seen.result
+    (taken_head c.load-seen.result c.if-seen-ne-NEVER.true c.if-seen-ne-FREE.true) c.requires.seeks c.load-seen.ensures.1
 
-pub returns-clause-ends : goal.returns-clause-ends
-returns-clause-ends g c = λ yes.
-    let same : c.match-needed_bucket.self.blocks ≡ c.args.self.now.blocks =
-    elim c.match-needed_bucket.branch [
-      | in-Some+else-is_err w ↦ ap (λ s. s.blocks) w.self-is ∙ w.room.ensures.0 ∙ c.load-seen.ensures.0
-      | in_default w ↦ ap (λ s. s.blocks) w.self-is ∙ c.load-seen.ensures.0
-    ] in
-    subst (λ b. IsUnderWay (all_of b.now.words.fixed.batch_size) c.occupies.new.self.seat.view) same (c.occupies.ensures.ends yes)
+pub returns-then-seen-ne-FREE-clause-beside : goal.returns-then-seen-ne-FREE-clause-beside
+returns-then-seen-ne-FREE-clause-beside g c =
+    (stays g.T.Defers.defers g.R.Leftovers.left g.R.One.acts g.R.One.all g.R.One.none g.R.One.beside g.R.Rule.then c.acts_alone.ensures.tells c.args.self.now.seat.view c.load-seen.new.self.seat.view c.args.all.now
+    (seeker_at c.args.slot Look) (Load (Slot c.args.slot HEAD)) (Found c.load-seen.result) c.requires.seeks.0 c.load-seen.ensures.1)
+
+pub widens-requires-clause-seeks : goal.widens-requires-clause-seeks
+widens-requires-clause-seeks g c =
+    seen_needs g.T.Defers.defers g.R.Leftovers.left g.R.One.acts g.R.One.all g.R.One.none g.R.One.beside g.R.Rule.then c.acts_alone.ensures.tells c.args.self.now.seat.view c.load-seen.new.self.seat.view c.args.all.now c.args.slot c.load-seen.result c.in-Some.bucket
+    (sym c.in-Some.is ∙ c.needed_bucket.ensures) (free_head c.load-seen.result c.else-seen-ne-NEVER.either) c.requires.seeks c.load-seen.ensures.1
+
+pub occupies-requires-in-None : goal.occupies-requires-in-None
+occupies-requires-in-None g c =
+    seen_free g.T.Defers.defers g.R.Leftovers.left g.R.One.acts g.R.One.all g.R.One.none g.R.One.beside g.R.Rule.then c.acts_alone.ensures.tells c.args.self.now.seat.view c.load-seen.new.self.seat.view c.args.all.now c.args.slot c.load-seen.result
+    (sym c.needed_bucket.ensures ∙ c.in-None.is) (free_head c.load-seen.result c.else-seen-ne-NEVER.either) c.requires.seeks c.load-seen.ensures.1
+
+pub returns-then-widens-clause-beside : goal.returns-then-widens-clause-beside
+returns-then-widens-clause-beside g c =
+    c.widens.ensures.beside ∙ (stays g.T.Defers.defers g.R.Leftovers.left g.R.One.acts g.R.One.all g.R.One.none g.R.One.beside g.R.Rule.then c.acts_alone.ensures.tells c.args.self.now.seat.view c.load-seen.new.self.seat.view c.args.all.now
+    (seeker_at c.args.slot Look) (Load (Slot c.args.slot HEAD)) (Found c.load-seen.result) c.requires.seeks.0 c.load-seen.ensures.1)
+
+pub returns-else-widens-clause-beside : goal.returns-else-widens-clause-beside
+returns-else-widens-clause-beside g c =
+    c.occupies.ensures.beside ∙ c.widens.ensures.beside ∙ (stays g.T.Defers.defers g.R.Leftovers.left g.R.One.acts g.R.One.all g.R.One.none g.R.One.beside g.R.Rule.then c.acts_alone.ensures.tells c.args.self.now.seat.view c.load-seen.new.self.seat.view c.args.all.now
+    (seeker_at c.args.slot Look) (Load (Slot c.args.slot HEAD)) (Found c.load-seen.result) c.requires.seeks.0 c.load-seen.ensures.1)
+
+pub returns-in-None-clause-beside : goal.returns-in-None-clause-beside
+returns-in-None-clause-beside g c =
+    c.occupies-in-None.ensures.beside ∙ (stays g.T.Defers.defers g.R.Leftovers.left g.R.One.acts g.R.One.all g.R.One.none g.R.One.beside g.R.Rule.then c.acts_alone.ensures.tells c.args.self.now.seat.view c.load-seen.new.self.seat.view c.args.all.now
+    (seeker_at c.args.slot Look) (Load (Slot c.args.slot HEAD)) (Found c.load-seen.result) c.requires.seeks.0 c.load-seen.ensures.1)
