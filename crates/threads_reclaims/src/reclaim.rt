@@ -11,7 +11,7 @@ use crate::law::one_reclaims_maps;
 use crate::rule::OneOfMaps;
 use map_tables::{Hashes, Node};
 use seize_blocks::{Home, Seat};
-use seize_collector::acts;
+use seize_reclaims::acts;
 use seize_views::Fixed;
 use threads_rule::OfMaps;
 

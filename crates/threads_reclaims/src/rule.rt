@@ -3,7 +3,7 @@ use crate::sole::Sole;
 use map_tables::{Hashes, Node};
 use seize::rows::{LeftOver, Leftovers, ReclaimAll};
 use seize_blocks::Rule;
-use seize_collector::One;
+use seize_reclaims::One;
 use seize_views::Fixed;
 use std::marker::PhantomData;
 

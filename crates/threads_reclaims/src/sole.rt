@@ -1,6 +1,6 @@
 //! What those know that had seats in a memory of maps, while one has it to himself.
 use map_tables::Node;
-use seize_collector::Alone;
+use seize_reclaims::Alone;
 use threads_rule::View;
 
 /// What a seat knows meanwhile.

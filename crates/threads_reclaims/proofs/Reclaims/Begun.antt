@@ -19,8 +19,8 @@ use Rattle.many_acts.specs.Acts.Lists.{Reached}
 use Rattle.many_acts.specs.Acts.Reclaiming.{IsReclaimingAll}
 use Rattle.seize_seats.specs.Seats.State.{State, view_of, after}
 use Rattle.seize_views.specs.declared.view.Fixed.{Fixed}
-use Rattle.seize_collector.specs.declared.alone.Alone.{Alone}
-use Rattle.seize_collector.specs.declared.alone.Alone.TheVariants.{Reclaims}
+use Rattle.seize_reclaims.specs.declared.alone.Alone.{Alone}
+use Rattle.seize_reclaims.specs.declared.alone.Alone.TheVariants.{Reclaims}
 use Rattle.threads_rule.specs.Views.Notes.{SeatIsQuiescent}
 use Rattle.threads_rule.specs.Views.Rule.{MapsWorld, Holds, AreRuns, IsFresh, runs_of}
 use Rattle.threads_rule.specs.Views.Listed.{calls_of}

@@ -13,7 +13,7 @@ use Rattle.seize_views.specs.Views.Rows.{IsQuiescent, row_of}
 use Rattle.seize_views.specs.declared.view.Fixed.{Fixed}
 use Rattle.seize_views.specs.declared.view.SlotView.{SlotView}
 use Rattle.seize_views.specs.declared.view.SlotView.TheVariants.{Inside}
-use Rattle.seize_collector.proofs.Renews.One.{no_row}
+use Rattle.seize_reclaims.proofs.Renews.One.{no_row}
 use Rattle.threads_rule.specs.Views.Notes.{busy, row_known, SeatIsQuiescent}
 use Rattle.threads_rule.specs.Views.Rule.{MapsWorld, Holds, AreSo, Fits, HasRow, DoesSo, IsIdle, IsSlot, acts_in, caller_at}
 use Rattle.threads_rule.specs.declared.view.View.{View}

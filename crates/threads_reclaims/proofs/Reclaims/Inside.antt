@@ -10,7 +10,7 @@ use Rattle.map_tables.specs.declared.node.Node.{Node}
 use Rattle.seize_seats.specs.Seats.State.{State, view_of, after}
 use Rattle.seize_seats.proofs.Seats.Stepping.Errands.{mapped_at}
 use Rattle.seize_views.proofs.Views.Lists.{there, elsewhere}
-use Rattle.seize_collector.specs.declared.alone.Alone.{Alone}
+use Rattle.seize_reclaims.specs.declared.alone.Alone.{Alone}
 use Rattle.threads_rule.specs.Views.Rule.{MapsWorld}
 use Rattle.threads_rule.specs.declared.view.View.{View}
 use Rattle.threads_reclaims.specs.Reclaims.Rule.{plainly, inside, IsOne}

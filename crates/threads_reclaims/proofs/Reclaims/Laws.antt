@@ -27,11 +27,11 @@ use Rattle.seize_views.specs.Views.Told.{shown_by}
 use Rattle.seize_views.specs.declared.view.Fixed.{Fixed}
 use Rattle.seize_views.specs.declared.view.SlotView.{SlotView}
 use Rattle.seize_views.specs.declared.view.SlotView.TheVariants as slot_view
-use Rattle.seize_collector.specs.Empties.Asked.{HasTold, HasPassed, OneTells, OneMayGoOn, OneMayTurn, OneIsShownAll}
-use Rattle.seize_collector.specs.Renews.One.{op_of_one, shown_to_one}
-use Rattle.seize_collector.specs.Renews.Rule.{IsShown}
-use Rattle.seize_collector.specs.declared.alone.Alone.{Alone}
-use Rattle.seize_collector.specs.declared.alone.Alone.TheVariants.{Registers, Reclaims}
+use Rattle.seize_reclaims.specs.Empties.Asked.{HasTold, HasPassed, OneTells, OneMayGoOn, OneMayTurn, OneIsShownAll}
+use Rattle.seize_reclaims.specs.Renews.One.{op_of_one, shown_to_one}
+use Rattle.seize_reclaims.specs.Renews.Rule.{IsShown}
+use Rattle.seize_reclaims.specs.declared.alone.Alone.{Alone}
+use Rattle.seize_reclaims.specs.declared.alone.Alone.TheVariants.{Registers, Reclaims}
 use Rattle.threads_rule.specs.Views.Begun.{with_slot}
 use Rattle.threads_rule.specs.Views.Rule.{MapsWorld, Holds, KeepsFor, Leans, LeansOn}
 use Rattle.threads_rule.specs.declared.view.View.{View}

@@ -21,11 +21,11 @@ use Rattle.seize_views.specs.Views.Rows.{IsShort, IsSeeking, IsQuiescent}
 use Rattle.seize_views.specs.declared.view.Fixed.{Fixed}
 use Rattle.seize_views.specs.declared.view.SlotView.{SlotView}
 use Rattle.seize_views.specs.declared.view.SlotView.TheVariants as slot_view
-use Rattle.seize_collector.specs.Empties.Asked.{HasSought}
-use Rattle.seize_collector.specs.Renews.Rule.{SeeksAt}
-use Rattle.seize_collector.specs.declared.alone.Alone.{Alone}
-use Rattle.seize_collector.specs.declared.alone.Alone.TheVariants.{Registers, Reclaims}
-use Rattle.seize_collector.proofs.Renews.Registering.{IsWell, no_word}
+use Rattle.seize_reclaims.specs.Empties.Asked.{HasSought}
+use Rattle.seize_reclaims.specs.Renews.Rule.{SeeksAt}
+use Rattle.seize_reclaims.specs.declared.alone.Alone.{Alone}
+use Rattle.seize_reclaims.specs.declared.alone.Alone.TheVariants.{Registers, Reclaims}
+use Rattle.seize_reclaims.proofs.Renews.Registering.{IsWell, no_word}
 use Rattle.threads_rule.specs.Views.Notes.{SeatIsQuiescent, row_known}
 use Rattle.threads_rule.specs.Views.Rule.{MapsWorld, Holds, KeepsFor}
 use Rattle.threads_rule.specs.Views.Told.{told, observed_by}

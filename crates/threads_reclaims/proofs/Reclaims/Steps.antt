@@ -29,11 +29,11 @@ use Rattle.seize_views.proofs.Views.Looks.{LooksOnce, now_ends, rest_of}
 use Rattle.seize_acts.specs.Acts.Stays.{how_many, is_end_of_owner}
 use Rattle.many_acts.specs.Given.ReclaimsReclaims.{ReclaimingOutcome}
 use Rattle.many_acts.proofs.Given.CallersTogether.Came.{came_reached}
-use Rattle.seize_collector.specs.Empties.Asked.{HasPassed}
-use Rattle.seize_collector.specs.Renews.Rule.{HasGone, IsShown}
-use Rattle.seize_collector.specs.declared.alone.Alone.TheVariants.{Reclaims}
-use Rattle.seize_collector.proofs.Empties.Steps.{once_at}
-use Rattle.seize_collector.proofs.Renews.Looks.{may_end}
+use Rattle.seize_reclaims.specs.Empties.Asked.{HasPassed}
+use Rattle.seize_reclaims.specs.Renews.Rule.{HasGone, IsShown}
+use Rattle.seize_reclaims.specs.declared.alone.Alone.TheVariants.{Reclaims}
+use Rattle.seize_reclaims.proofs.Empties.Steps.{once_at}
+use Rattle.seize_reclaims.proofs.Renews.Looks.{may_end}
 use Rattle.many_acts.specs.Given.ReclaimsReclaims.{ReclaimingAt, AllIsReclaimed}
 use Rattle.std.proofs.lemmas.Option.{slice_get-map}
 use Rattle.core.specs.Option.{option_map}

@@ -16,8 +16,8 @@ use Rattle.seize_model.proofs.Given.SeizeMemoryWords.Room.{first_there, slots_gr
 use Rattle.seize_views.specs.Views.Promises.{op_in}
 use Rattle.seize_views.specs.Views.Rows.{IsSeeking}
 use Rattle.seize_views.specs.Views.Told.{HasOutcome}
-use Rattle.seize_collector.specs.Renews.Rule.{SeeksAt}
-use Rattle.seize_collector.proofs.Renews.Registering.{IsWell, well_either, well_further, well_taking}
+use Rattle.seize_reclaims.specs.Renews.Rule.{SeeksAt}
+use Rattle.seize_reclaims.proofs.Renews.Registering.{IsWell, well_either, well_further, well_taking}
 use Rattle.seize_words.proofs.General.{same_some}
 
 module _ {T : Type 0} (m m2 : Mem T) (c : Register) (short : c.enters ≡ Bool.false) (end : Register × Advance ℕ) where

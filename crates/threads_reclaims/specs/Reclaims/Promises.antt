@@ -12,7 +12,7 @@ use Rattle.seize_seats.specs.Seats.Errands.{RenewsInto}
 use Rattle.seize_seats.specs.Seats.Start.{WasKnown}
 use Rattle.seize_views.specs.declared.view.Fixed.{Fixed}
 use Rattle.seize_views.specs.declared.view.SlotView.TheVariants.{Rests}
-use Rattle.seize_collector.specs.declared.alone.Alone.TheVariants.{Reclaims}
+use Rattle.seize_reclaims.specs.declared.alone.Alone.TheVariants.{Reclaims}
 use Rattle.threads_rule.specs.Views.Notes.{SeatIsQuiescent}
 use Rattle.threads_rule.specs.Views.Rule.{Holds}
 use Rattle.threads_rule.specs.declared.view.View.{View}

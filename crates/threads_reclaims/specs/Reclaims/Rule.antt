@@ -21,10 +21,10 @@ use Rattle.seize_seats.specs.Seats.State.{State, view_of}
 use Rattle.seize_views.specs.Views.Begun.{seeker_at}
 use Rattle.seize_views.specs.declared.view.Fixed.{Fixed}
 use Rattle.seize_views.specs.declared.view.SlotView.TheVariants as slot_view
-use Rattle.seize_collector.specs.Empties.Asked.{HasTold}
-use Rattle.seize_collector.specs.Renews.Rule.{SeeksAt, IsShown}
-use Rattle.seize_collector.specs.declared.alone.Alone.{Alone}
-use Rattle.seize_collector.specs.declared.alone.Alone.TheVariants.{Registers, Reclaims}
+use Rattle.seize_reclaims.specs.Empties.Asked.{HasTold}
+use Rattle.seize_reclaims.specs.Renews.Rule.{SeeksAt, IsShown}
+use Rattle.seize_reclaims.specs.declared.alone.Alone.{Alone}
+use Rattle.seize_reclaims.specs.declared.alone.Alone.TheVariants.{Registers, Reclaims}
 use Rattle.threads_rule.specs.Views.Listed.{AreNumbered, IsItsOwn, calls_of}
 use Rattle.threads_rule.specs.Views.Notes.{SeatIsQuiescent}
 use Rattle.threads_rule.specs.Views.Rule.{MapsWorld, Holds, KnowsMap, AreRuns, IsFresh, runs_of}

@@ -2,7 +2,7 @@ use Rattle.std.proofs.Common.{◌≡◌, sym, subst, ap, ◌∙◌}
 use Rattle.seize_seats.specs.Seats.Errands.{RenewsInto}
 use Rattle.seize_seats.specs.Seats.Start.{WasKnown}
 use Rattle.seize_views.specs.declared.view.Fixed.{Fixed}
-use Rattle.seize_collector.proofs.Empties.Alone.{like_on}
+use Rattle.seize_reclaims.proofs.Empties.Alone.{like_on}
 use Rattle.threads_rule.specs.Views.Notes.{SeatIsQuiescent}
 use Rattle.threads_rule.specs.Views.Rule.{Holds}
 use Rattle.threads_reclaims.specs.Reclaims.Rule.{HoldsOne, one_first, kept_of, acts_of, all_in}
