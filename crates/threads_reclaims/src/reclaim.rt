@@ -2,7 +2,6 @@
 ghost use Rattle.std.specs.Prelude.{◌≡◌, ◌<◌, ◌^◌, None};
 ghost use Rattle.seize_seats.specs.Seats.Owned.{IsLike};
 ghost use Rattle.seize_views.specs.declared.view.SlotView.TheVariants.{Rests};
-ghost use Rattle.threads_rule.specs.Views.Notes.{SeatIsQuiescent};
 ghost use Rattle.threads_reclaims.specs.Reclaims.Rule.{freed};
 ghost use Rattle.threads_reclaims.specs.Reclaims.Promises.{IsReclaimed};
 
@@ -25,7 +24,7 @@ pub fn reclaim_all<K: Eq + Drop, V: Drop, S: Hashes<K>>(
 ) -> (Home<Node<K, V>, OfMaps<S>>, Seat<Node<K, V>, OfMaps<S>>)
     requires fixed { home.blocks.words.fixed ≡ fixed.now }
     requires own { seat.base ≡ home.blocks.words.id.views_name }
-    requires rests { SeatIsQuiescent seat.view × (seat.view.slot ≡ Rests) }
+    requires rests { seat.view.slot ≡ Rests }
     ensures fixed { result.0.blocks.words.fixed ≡ fixed.now }
     ensures same { (result.0.blocks.words.words ≡ home.blocks.words.words) × IsLike result.0.blocks.words.id home.blocks.words.id }
     ensures own { (result.1.base ≡ result.0.blocks.words.id.views_name) × (result.1.away ≡ None) }

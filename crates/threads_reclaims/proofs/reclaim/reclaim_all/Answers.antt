@@ -16,7 +16,7 @@ pub inherits-home-requires-clause-ends : goal.inherits-home-requires-clause-ends
 inherits-home-requires-clause-ends g c =
     let f = c.args.fixed.now in let same = g.K.PartialEq.eq in let hash = g.S.Hashes.hash in
     subst (λ (x : Fixed). RenewsInto SeatIsQuiescent (Holds same hash x) (HoldsOne same hash f) c.args.seat.id c.args.seat.view Left (one_first f c.args.seat.view)) (sym c.requires.fixed)
-    (c.one_reclaims_maps.ensures.begins same hash f c.args.seat.id c.args.seat.view c.requires.rests.1)
+    (c.one_reclaims_maps.ensures.begins same hash f c.args.seat.id c.args.seat.view c.requires.rests)
 
 pub acts-seat-requires-clause-begins : goal.acts-seat-requires-clause-begins
 acts-seat-requires-clause-begins g c = let e = c.inherits-home.ensures.comes.2 in (ap acts_of e, ap all_in e)
