@@ -1,15 +1,20 @@
 //! How a map is made that threads share.
-ghost use Rattle.std.specs.Prelude.{◌≡◌, ◌≤◌, ◌^◌, None, Ok, IfOk, IfErr, OnOk, MatchResult};
+ghost use Rattle.std.specs.Prelude.{◌≡◌, ◌<◌, ◌≤◌, ◌^◌, Some, None, Ok, true, IfOk, IfErr, OnOk, MatchResult};
+ghost use Rattle.papaya_sessions.specs.Given.SeizeCallersKept.{is_home};
+ghost use Rattle.papaya_sessions.specs.Given.SeizeViewsDeclared.view.SlotView.TheVariants.{Rests};
 ghost use Rattle.map_tables.specs.declared.resize_mode.ResizeMode.TheVariants.{Incremental};
+ghost use Rattle.papaya_sessions.specs.Given.ViewsDeclared.view.SeatWork.TheVariants.{Nothing as NoWork};
 ghost use Rattle.papaya_map.specs.Builders.{RefusedBy, first_fault, ids_after};
+ghost use Rattle.papaya_sessions.specs.Given.CallersStanding.{known_by};
 ghost use Rattle.seize.specs.Ids.{given, following};
 ghost use Rattle.seize_words.specs.declared.fault.Fault.TheVariants.{Memory};
 
 use crate::builder::HashMapBuilder;
 use crate::map::HashMap;
-use map_tables::ResizeMode;
-use papaya_sessions::{Fixed, SessionBase as Base, Sleepers, memory_for};
+use map_tables::{Hashes, Node, ResizeMode, Setting};
+use papaya_sessions::{Fixed, OfMaps, SessionBase as Base, Sleepers, memory_for};
 use seize::{Collector, IdSource};
+use seize_blocks::{Blocks, Seat};
 use seize_words::Fault;
 use std::alloc::Global;
 use std::hash::{BuildHasher, Hash, RandomState};
@@ -29,6 +34,31 @@ pub(crate) struct Making {
     pub(crate) mode: ResizeMode,
     /// For how many processors it counts its pairs.
     pub(crate) processors: u64,
+}
+
+/// Makes a map in this memory, and answers the seat that knows it, and what each call on it works with.
+fn begun<K: Eq + Hash + Drop, V: Drop, S: Hashes<K>>(
+    blocks: &Blocks<Node<K, V>, OfMaps<S>>,
+    sleepers: &Sleepers,
+    hasher: &S,
+    chosen: &Fixed,
+    making: Making,
+) -> Result<(Seat<Node<K, V>, OfMaps<S>>, Setting), Fault>
+    requires fixed { blocks.now.words.fixed ≡ chosen.now }
+    requires roots { 0 < chosen.now.roots }
+    requires processors { making.processors ≤ 2 ^ 63 }
+    ensures own { IfOk result (λ r. r.0.base ≡ blocks.now.words.id.views_name) }
+    ensures stays { IfOk result (λ r. is_home r.0.away ≡ true) }
+    ensures rests { IfOk result (λ r. r.0.view.slot ≡ Rests) }
+    ensures free { IfOk result (λ r. r.0.view.work ≡ NoWork) }
+    ensures lone { IfOk result (λ r. r.0.view.under ≡ None) }
+    ensures knows { IfOk result (λ r. known_by r.0.view ≡ Some (r.1, hasher.now)) }
+    ensures sized { IfOk result (λ r. blocks.now.words.fixed.batch_size ≡ r.1.batch_size) }
+    ensures mode { IfOk result (λ r. r.1.mode ≡ making.mode) }
+{
+    let (mode, processors) = (making.mode, making.processors);
+    let session = Base::open(blocks, sleepers, hasher, chosen, mode, processors)?;
+    Ok(session.into_seat())
 }
 
 impl<K: Eq + Hash + Drop, V: Drop> HashMap<K, V> {
@@ -135,19 +165,15 @@ impl<K: Eq + Hash + Drop, V: Drop, S: BuildHasher + Drop> HashMap<K, V, S> {
         let count = making.capacity.saturating_add(FIRST).min(MOST);
         let home = memory_for::<K, V, S>(alloc, count, &chosen)?;
         let sleepers = Sleepers::new();
-        let (mode, processors) = (making.mode, making.processors);
-        match Base::open(&home.blocks, &sleepers, &hasher, &chosen, mode, processors) {
-            Ok(base) => {
-                let (seat, setting) = base.into_seat();
-                Ok(HashMap {
-                    collector,
-                    home,
-                    sleepers,
-                    hasher,
-                    setting,
-                    seat,
-                })
-            }
+        match begun(&home.blocks, &sleepers, &hasher, &chosen, making) {
+            Ok((seat, setting)) => Ok(HashMap {
+                collector,
+                home,
+                sleepers,
+                hasher,
+                setting,
+                seat,
+            }),
             // Its one root is free in a memory that has just been opened.
             Err(_) => Err(Fault::Memory),
         }

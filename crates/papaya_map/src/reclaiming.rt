@@ -20,13 +20,29 @@ fn reclaimed<K: Eq + Hash + Drop, V: Drop, S: Hashes<K>>(
     ensures knows { result.0.seat.view ≡ freed map.seat.view }
     ensures empty { IsReclaimed K.eq S.hash result.0.home.blocks.words.fixed result.0.home.blocks.words.start }
 {
+    let HashMap {
+        collector,
+        home,
+        sleepers,
+        hasher,
+        setting,
+        seat,
+    } = map;
     let chosen = Fixed {
-        batch_size: map.setting.batch_size,
+        batch_size: setting.batch_size,
         roots: 1,
         chains: 0,
     };
-    let (home, seat) = reclaim_all(map.home, map.seat, &chosen);
-    (HashMap { home, seat, ..map }, ())
+    let (home, seat) = reclaim_all(home, seat, &chosen);
+    let map = HashMap {
+        collector,
+        home,
+        sleepers,
+        hasher,
+        setting,
+        seat,
+    };
+    (map, ())
 }
 
 impl<K: Eq + Hash + Drop, V: Drop, S: Hashes<K>> HashMap<K, V, S> {
