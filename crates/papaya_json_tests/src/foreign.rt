@@ -1,8 +1,10 @@
 //! A guard or a pass of another map is refused, by each call that takes one, and is as it was.
-use crate::{Hashing, Map, Told};
-use papaya::{Fault, IdSource, Operation, Refused};
+use crate::{Hashing, Map};
+use papaya_json::{Fault, IdSource, Operation, Refused};
 use std::alloc::Global;
 use std::sync::Wait;
+
+type Told<T> = Result<T, Fault>;
 
 /// Tells whether a call was refused what is of another map.
 fn is_foreign<T: Drop>(told: Told<T>) -> bool {
