@@ -9,7 +9,7 @@ import sys
 
 TOP = os.path.dirname(os.path.dirname(os.path.abspath(__file__)))
 CRATES = ("papaya_sessions", "papaya_map", "papaya", "papaya_json")
-TESTS = ("papaya_tests",)
+TESTS = ("papaya_tests", "papaya_json_tests")
 HEAD = "| `papaya` | here | |"
 TYPE = r"(?:<[^{]*?>\s+)?(?:[\w:]+(?:<.*?>)?\s+for\s+)?(\w+)"
 

@@ -1,5 +1,7 @@
 //! A hash set that threads share, as one has it who owns it.
 ghost use Rattle.std.specs.Prelude.{◌≡◌, [], IfOk};
+ghost use Rattle.papaya_map.specs.Given.ReclaimsPromises.{IsReclaimed};
+ghost use Rattle.papaya_map.specs.Given.ReclaimsRule.{freed};
 
 use crate::registration::SetRegistration;
 use crate::session::SetSession;
@@ -54,5 +56,17 @@ impl<K: Eq + Hash + Drop, S: Hashes<K>> HashSet<K, S> {
     {
         let session = self.map.session()?;
         Ok(SetSession::of(session))
+    }
+
+    /// Reclaims all that waits in the set, as `HashMap::reclaim_all` does. Elements of the set stay.
+    pub fn reclaim_all(&mut self)
+        ensures collector { self.new.map.collector ≡ self.old.map.collector }
+        ensures hasher { self.new.map.hasher ≡ self.old.map.hasher }
+        ensures setting { self.new.map.setting ≡ self.old.map.setting }
+        ensures fixed { self.new.map.home.blocks.words.fixed ≡ self.old.map.home.blocks.words.fixed }
+        ensures knows { self.new.map.seat.view ≡ freed self.old.map.seat.view }
+        ensures empty { IsReclaimed K.eq S.hash self.new.map.home.blocks.words.fixed self.new.map.home.blocks.words.start }
+    {
+        self.map.reclaim_all();
     }
 }

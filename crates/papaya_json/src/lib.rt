@@ -8,6 +8,6 @@ mod sets;
 pub use forms::{FromJson, ToJson};
 pub use map_forms::{JsonFault, JsonForm, JsonKey, Text};
 pub use papaya::{
-    Attempt, Fault, HashMap, HashSet, IdSource, Operation, ResizeMode, Session, SetSession,
-    SharedMap, SharedSet,
+    Attempt, Fault, HashMap, HashSet, IdSource, Operation, Refused, ResizeMode, Session,
+    SetSession, SharedMap, SharedSet,
 };

@@ -1,7 +1,8 @@
-//! Values that count their drops: each that was stored is dropped once.
+//! Values that count their drops: each that was stored is dropped once; what waits in a map is dropped as the map is emptied of that.
 use crate::Hashing;
 use papaya_json::{Fault, HashMap, IdSource, Session};
 use std::alloc::Global;
+use std::mem;
 use std::sync::atomic::AtomicU64;
 use std::sync::atomic::Ordering::SeqCst;
 use std::sync::{Arc, Wait};
@@ -64,4 +65,24 @@ pub(crate) fn are_dropped_once<R: Threads + Wait + Sync>(
     let after = drops.load(SeqCst);
     let stored = one == Some(EACH) && other == Some(EACH);
     Ok(stored && before <= 2 * EACH - KEYS && after == 2 * EACH)
+}
+
+/// Tells whether of three values that were stored at one key the two that were replaced are dropped, also where a session was forgotten, whose slot is taken again; the third is
+/// there in the next session, and is dropped with the map.
+pub(crate) fn is_emptied<R: Wait>(rt: &R, alloc: Global) -> Result<bool, Fault> {
+    let drops = Arc::new(alloc, AtomicU64::new(0))?;
+    let mut map = HashMap::with_hasher(alloc, &mut IdSource::new(), Hashing::default())?;
+    let mut forgotten = map.session()?;
+    for _ in 0..3u64 {
+        let Ok(drops) = Arc::try_clone(&drops) else {
+            return Ok(false);
+        };
+        let _ = forgotten.insert(rt, 1u64, Counted { drops })?;
+    }
+    mem::forget(forgotten);
+    map.reclaim_all();
+    let emptied = drops.load(SeqCst);
+    let stays = map.session()?.contains_key(rt, &1);
+    drop(map);
+    Ok(stays && emptied == 2 && drops.load(SeqCst) == 3)
 }

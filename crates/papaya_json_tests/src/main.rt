@@ -1,8 +1,9 @@
 //! Says of shared maps and sets what they read of JSON and write as it, a line of the input each: `map` and `set`, with a text. What is none is refused, and it is said why. Then
-//! it says of copies, of texts as keys, and of values that are dropped, what they were seen to do.
+//! it says of copies, of texts as keys, of values that are dropped, and of what is of another map, what they were seen to do.
 #![tactic(auto)]
 
 mod counting;
+mod foreign;
 mod forms;
 
 use papaya_json::{Fault, FromJson, HashMap, HashSet, IdSource, JsonFault, ToJson};
@@ -84,5 +85,11 @@ fn main(rt: HostRuntime) -> io::Result<()> {
     let found = forms::are_found(&rt, alloc)?;
     println!(rt; "what was stored at texts is found by lent ones: {found}")?;
     let once = counting::are_dropped_once(&rt, alloc)?;
-    println!(rt; "each value that was stored is dropped once: {once}")
+    println!(rt; "each value that was stored is dropped once: {once}")?;
+    let emptied = counting::is_emptied(&rt, alloc)?;
+    println!(rt; "what waits is dropped as a map is emptied of it: {emptied}")?;
+    let refused = foreign::looks(&rt, alloc)?;
+    println!(rt; "lookups refuse what is of another map: {refused}")?;
+    let refused = foreign::stores(&rt, alloc)?;
+    println!(rt; "changes refuse what is of another map: {refused}")
 }

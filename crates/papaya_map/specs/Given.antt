@@ -15,3 +15,5 @@ pub use Rattle.papaya_sessions.specs.OneMap as SessionsOneMap
 pub use Rattle.papaya_sessions.specs.Sessions as SessionsSessions
 pub use Rattle.papaya_sessions.specs.Under as SessionsUnder
 pub use Rattle.papaya_sessions.specs.Walked as SessionsWalked
+pub use Rattle.threads_reclaims.specs.Reclaims.Promises as ReclaimsPromises
+pub use Rattle.threads_reclaims.specs.Reclaims.Rule as ReclaimsRule

@@ -31,9 +31,7 @@ pub struct HashMapBuilder<K, V, S = RandomState, C = Own> {
     shards: Option<u64>,
     collector: Option<Collector>,
     hasher: S,
-    keys: PhantomData<K>,
-    values: PhantomData<V>,
-    chosen: PhantomData<C>,
+    made: PhantomData<(K, V, C)>,
 }
 
 impl<K, V, S> HashMapBuilder<K, V, S> {
@@ -51,9 +49,7 @@ impl<K, V, S> HashMapBuilder<K, V, S> {
             shards: None,
             collector: None,
             hasher,
-            keys: PhantomData,
-            values: PhantomData,
-            chosen: PhantomData,
+            made: PhantomData,
         }
     }
 }
@@ -73,9 +69,7 @@ impl<K, V, S: Drop> HashMapBuilder<K, V, S> {
             shards,
             collector,
             hasher: _,
-            keys,
-            values,
-            chosen,
+            made,
         } = self;
         HashMapBuilder {
             capacity,
@@ -83,9 +77,7 @@ impl<K, V, S: Drop> HashMapBuilder<K, V, S> {
             shards,
             collector,
             hasher,
-            keys,
-            values,
-            chosen,
+            made,
         }
     }
 }
@@ -129,9 +121,7 @@ impl<K, V, S, C> HashMapBuilder<K, V, S, C> {
             shards,
             collector: _,
             hasher,
-            keys,
-            values,
-            chosen: _,
+            made: _,
         } = self;
         HashMapBuilder {
             capacity,
@@ -139,9 +129,7 @@ impl<K, V, S, C> HashMapBuilder<K, V, S, C> {
             shards,
             collector: Some(collector),
             hasher,
-            keys,
-            values,
-            chosen: PhantomData,
+            made: PhantomData,
         }
     }
 }
@@ -193,19 +181,14 @@ impl<K: Eq + Hash + Drop, V: Drop, S: BuildHasher + Drop, C> HashMapBuilder<K, V
             shards,
             collector,
             hasher,
-            keys: _,
-            values: _,
-            chosen: _,
+            made: _,
         } = self;
         if copies_none(mode) {
             return Err(Fault::ZeroChunk);
         }
         let _ = entries_for(capacity)?;
         let collector = made(collector, ids)?;
-        let processors = match shards {
-            Some(shards) => shards,
-            None => collector.processors(),
-        };
+        let processors = shards.unwrap_or(collector.processors());
         let making = Making {
             capacity,
             mode,

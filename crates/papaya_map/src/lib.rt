@@ -5,6 +5,7 @@ mod builder;
 mod cloning;
 mod making;
 mod map;
+mod reclaiming;
 mod shared;
 
 pub use builder::{Given, HashMapBuilder, Own};

@@ -36,13 +36,6 @@ pub(crate) struct Making {
     pub(crate) processors: u64,
 }
 
-/// For how many blocks the memory of a map of this capacity has numbers at first.
-fn count_for(capacity: u64) -> u64
-    ensures { result ≤ 2 ^ 32 }
-{
-    capacity.saturating_add(FIRST).min(MOST)
-}
-
 /// Makes a map in this memory, and answers the seat that knows it, and what each call on it works with.
 fn begun<K: Eq + Hash + Drop, V: Drop, S: Hashes<K>>(
     blocks: &Blocks<Node<K, V>, OfMaps<S>>,
@@ -169,7 +162,8 @@ impl<K: Eq + Hash + Drop, V: Drop, S: BuildHasher + Drop> HashMap<K, V, S> {
             roots: 1,
             chains: 0,
         };
-        let home = memory_for::<K, V, S>(alloc, count_for(making.capacity), &chosen)?;
+        let count = making.capacity.saturating_add(FIRST).min(MOST);
+        let home = memory_for::<K, V, S>(alloc, count, &chosen)?;
         let sleepers = Sleepers::new();
         match begun(&home.blocks, &sleepers, &hasher, &chosen, making) {
             Ok((seat, setting)) => Ok(HashMap {

@@ -34,6 +34,7 @@ pub struct HashMap<K: Eq + Hash + Drop, V: Drop, S: Hashes<K> = RandomState> {
     pub(crate) ghost lone: { seat.view.under ≡ None },
     pub(crate) ghost knows: { known_by seat.view ≡ Some (setting, hasher) },
     pub(crate) ghost sized: { home.blocks.words.fixed.batch_size ≡ setting.batch_size },
+    pub(crate) ghost only: { (home.blocks.words.fixed.roots ≡ 1) × (home.blocks.words.fixed.chains ≡ 0) },
     pub(crate) ghost small: { nat_lt home.blocks.words.fixed.batch_size (2 ^ 64) ≡ true },
 }
 

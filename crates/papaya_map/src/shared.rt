@@ -2,10 +2,8 @@
 ghost use Rattle.std.specs.Prelude.{◌≡◌, ◌^◌, [], Some, true, IfOk, nat_lt};
 ghost use Rattle.papaya_sessions.specs.Given.CallersStanding.{known_by};
 
-mod asking;
+mod changing;
 mod looking;
-mod storing;
-mod updating;
 
 use map_tables::{Hashes, Node, Setting};
 use papaya_sessions::{

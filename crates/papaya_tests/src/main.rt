@@ -3,7 +3,6 @@
 #![tactic(auto)]
 
 mod building;
-mod foreign;
 mod keys;
 mod passing;
 mod rows;
@@ -86,7 +85,9 @@ fn of_mode<R: Threads + Wait + Clock + Sync + Print>(
     let is_so = sets::change(rt, sets::built(alloc, mode));
     all = tells(rt, "of two calls on an element one comes first", is_so)? && all;
     let is_so = sets::meet(rt, sets::built(alloc, mode));
-    Ok(tells(rt, "two passes and two walks of a set meet", is_so)? && all)
+    all = tells(rt, "two passes and two walks of a set meet", is_so)? && all;
+    let is_so = sets::empties(rt, sets::built(alloc, mode));
+    Ok(tells(rt, "a set is emptied of what waits", is_so)? && all)
 }
 
 /// Prints what is so of maps and sets whatever their mode is, and answers whether all is.
@@ -102,10 +103,6 @@ fn of_any<R: Threads + Wait + RandomSource + Sync + Print>(
     all = tells(rt, "what sessions have stored stays", is_so)? && all;
     let is_so = building::copies(rt, alloc);
     all = tells(rt, "a clone is the same until one changes", is_so)? && all;
-    let is_so = foreign::looks(rt, alloc);
-    all = tells(rt, "lookups refuse what is of another map", is_so)? && all;
-    let is_so = foreign::stores(rt, alloc);
-    all = tells(rt, "changes refuse what is of another map", is_so)? && all;
     Ok(
         tells(
             rt,

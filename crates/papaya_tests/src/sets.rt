@@ -1,4 +1,4 @@
-//! What two threads do to a set; how one is built; and what refuses one, or a guard and a pass of another set.
+//! What two threads do to a set; how one is built, and emptied of what waits; and what refuses one, or a guard and a pass of another set.
 ghost use Rattle.std.specs.Prelude.{◌≡◌, ◌≢◌};
 
 use crate::{Hashing, LOOKS, Told, with};
@@ -96,6 +96,17 @@ pub(crate) fn meet<R: Threads + Wait + Clock + Sync>(rt: &R, made: Told<Set>) ->
         || leaves(rt, &set, &guard, 7),
     );
     Ok(one? && other?)
+}
+
+/// Tells whether a set has what it had once it is emptied, and goes on.
+pub(crate) fn empties<R: Wait>(rt: &R, made: Told<Set>) -> Told<bool> {
+    let mut set = made?;
+    let mut session = set.session()?;
+    let stored = session.insert(rt, 1)? && session.insert(rt, 2)? && session.remove(rt, &1)?;
+    drop(session);
+    set.reclaim_all();
+    let mut next = set.session()?;
+    Ok(stored && next.insert(rt, 1)? && next.contains(rt, &2) && next.len() == 2)
 }
 
 /// Whether calls on a set refuse a guard and a pass that are of another one.

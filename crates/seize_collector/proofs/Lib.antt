@@ -1,3 +1,0 @@
-pub mod Renews
-pub mod Empties
-pub mod Collectors

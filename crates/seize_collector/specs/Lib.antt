@@ -1,3 +1,1 @@
-pub mod Renews
-pub mod Empties
 pub mod Collectors

@@ -6,14 +6,14 @@ ghost use Rattle.seize.specs.Collector.{made_by, root_of};
 ghost use Rattle.seize_words.specs.declared.fault.Fault.TheVariants.{Memory};
 ghost use Rattle.seize.specs.Ids.{given, following};
 ghost use Rattle.seize_seats.specs.Seats.Owned.{IsLike};
-ghost use Rattle.seize_collector.specs.Renews.Emptied.{IsEmptied};
+ghost use Rattle.seize_reclaims.specs.Renews.Emptied.{IsEmptied};
 ghost use Rattle.seize_shared.specs.OnThreads.Refused.{HasNoSlot};
 ghost use Rattle.seize_collector.specs.Collectors.Made.{IsMade};
 
-use crate::reclaim_all;
 use seize::rows::Defers;
 use seize::{At, Collector as Setting, Fault, IdSource};
 use seize_blocks::Home;
+use seize_reclaims::reclaim_all;
 use seize_shared::{Content, Drops, Fixed, OfRows, OwnedGuard, Receiver, Registration, Shared};
 use std::alloc::Global;
 use std::fmt;

@@ -1,0 +1,2 @@
+pub mod Renews
+pub mod Empties
