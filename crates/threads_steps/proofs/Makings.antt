@@ -23,7 +23,7 @@ use Rattle.threads_rule.specs.Errands.Making.{MakesMap, MadeSo, KnowsStill, Stay
 use Rattle.threads_steps.specs.declared.within.Within.{Within}
 use Rattle.threads_steps.proofs.Calls.{has_alone}
 use Rattle.threads_rule.proofs.Errands.Making.{GoesEarly, tells, is_do, leaves, is_now}
-use Rattle.threads_rule.proofs.CallKinds.Plans.{may_by, was_made, follows_one, now_plain, now_follows, leaves_values}
+use Rattle.threads_kinds.proofs.CallKinds.Plans.{may_by, was_made, follows_one, now_plain, now_follows, leaves_values}
 
 module _ {K V S : Type 0} (same : K → K → Bool) (hash : S → K → ℕ) (c : Within K V S) (hasher : S) (opening : NewMap) (is : MakesMap hasher opening c.seat.now.view) where
   abbrev plan : Plan (Node K V) (NewMap × Advance Setting)

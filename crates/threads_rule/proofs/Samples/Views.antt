@@ -24,8 +24,8 @@ use Rattle.seize_views.specs.declared.view.Becomes.TheVariants.{Idle}
 use Rattle.seize_views.specs.declared.view.Fixed.{Fixed}
 use Rattle.seize_views.specs.declared.view.SlotView.{SlotView}
 use Rattle.seize_views.specs.declared.view.SlotView.TheVariants.{Outside, Enters, Inside, Leaves}
-use Rattle.threads_rule.specs.CallKinds.Kinds.{PairIsVisible}
-use Rattle.threads_rule.specs.CallKinds.Shows.{AnsweredAreVisible}
+use Rattle.threads_kinds.specs.CallKinds.Kinds.{PairIsVisible}
+use Rattle.threads_kinds.specs.CallKinds.Shows.{AnsweredAreVisible}
 use Rattle.threads_rule.specs.Views.Begun.{machine_for, with_slot}
 use Rattle.threads_rule.specs.Views.Looks.{shown_in}
 use Rattle.threads_rule.specs.Views.Notes.{notes_of}

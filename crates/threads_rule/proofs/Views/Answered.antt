@@ -34,7 +34,7 @@ use Rattle.map_straight.specs.Given.RuleInWorld.{KnownSince}
 use Rattle.map_straight.specs.Given.RuleWords.{Blocks, byte_of, place_word}
 use Rattle.map_straight.proofs.Given.RuleWords.PlaceWords.{pair_block}
 use Rattle.map_straight.proofs.Given.RuleWords.PlacesShown.{byte_of-few}
-use Rattle.threads_rule.specs.CallKinds.Shows.{AnswerNames, AnswersWith}
+use Rattle.threads_kinds.specs.CallKinds.Shows.{AnswerNames, AnswersWith}
 
 -- only a call on one key answers with pairs
 room_none : {T : Type 0} (end : Yielding T Unit) (word : ℕ) → AnswersWith (of_outcome end) word → ⊥

@@ -27,7 +27,7 @@ use Rattle.many_acts.specs.Given.FinishesEndings.{EndingsTogether}
 use Rattle.many_acts.specs.Given.FinishesMachines.{machine_of, DidOfKind, MachineStepsWithEndings}
 use Rattle.many_acts.specs.Given.FinishesMaps.{Standing}
 use Rattle.many_acts.specs.Given.ScenesScene.{Scene, slot_of}
-use Rattle.threads_rule.specs.CallKinds.Shows.{ReadsPlaces, ReadsWord, ProgressNamesPair}
+use Rattle.threads_kinds.specs.CallKinds.Shows.{ReadsPlaces, ReadsWord, ProgressNamesPair}
 
 -- what reads the word of a place copies nothing
 reads_alone : (s : Sweeping) → ReadsWord s → CopiesPairs s → ⊥

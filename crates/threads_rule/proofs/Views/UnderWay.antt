@@ -66,7 +66,7 @@ use Rattle.threads_rule.proofs.Views.Next.{after, step_leaves, step_fresh, own_d
 use Rattle.threads_rule.proofs.Views.Looked.{AllKnown, AllLooked, IsSo}
 use Rattle.threads_rule.proofs.Views.Naming.{IsThere, Known, none_more, of_these, one_more, with_told}
 use Rattle.threads_rule.proofs.Views.Shown.{is_read, pair_told, read_word, was_read}
-use Rattle.threads_rule.specs.CallKinds.Shows.{ReadsPlaces, AnswersWith, ProgressNamesPair, ToldAreVisible}
+use Rattle.threads_kinds.specs.CallKinds.Shows.{ReadsPlaces, AnswersWith, ProgressNamesPair, ToldAreVisible}
 use Rattle.threads_rule.specs.Views.Looks.{shown_in}
 use Rattle.threads_rule.proofs.Views.RowLooks.{row_sees}
 use Rattle.threads_rule.proofs.Views.Numbers.{slot_at}

@@ -17,7 +17,7 @@ use Rattle.papaya_raw.specs.declared.machines.progress.Progress.{Progress}
 use Rattle.papaya_raw.specs.declared.machines.progress.Progress.TheVariants as progress
 use Rattle.seize_views.specs.Views.Told.{FollowsBy, told as row_told}
 use Rattle.seize_views.specs.declared.view.SlotView.{SlotView}
-use Rattle.threads_rule.specs.CallKinds.Shows.{ToldAreVisible}
+use Rattle.threads_kinds.specs.CallKinds.Shows.{ToldAreVisible}
 use Rattle.threads_rule.specs.Views.Looks.{shown_in, TurnsTo, MayFollow}
 use Rattle.threads_rule.specs.declared.view.Map.{Map}
 use Rattle.threads_rule.specs.declared.view.BegunCall.{BegunCall}
