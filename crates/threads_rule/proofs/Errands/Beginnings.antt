@@ -160,7 +160,7 @@ module _ {K V S : Type 0} where
       by : (map : Option (Map S)) (work : SeatWork K V S) → turned_by same hash v map work w → w.under ≡ v.under
       by (Some map) (Calls machine) is = ap (λ (u : View K V S). u.under) is.2
       by (Some map) Nothing is = absurd is
-      by (Some map) (Makes m hasher opening) is = absurd is
+      by (Some map) (Makes mine m hasher opening) is = absurd is
       by None Nothing is = absurd is
       by None (Calls machine) is = absurd is
-      by None (Makes m hasher opening) is = absurd is
+      by None (Makes mine m hasher opening) is = absurd is

@@ -55,7 +55,7 @@ module _ {K V S : Type 0} (same : K → K → Bool) (hash : S → K → ℕ) (sc
   by_work a slot k on (Calls p) (Some map) d =
       let one = settles_on (scene.world.row a) d.0 slot d.4 on in
       record { seat = k.seat; knows = k.knows; here = k.here; caller = k.caller; has = by_section k.knows.slot k.knows.under slot (d.1 ∙ ap (λ (b : ℕ). Some b) one) }
-  by_work a slot k on (Makes m hasher opening) map d = absurd (subst (λ (x : Row). SettlesOn slot x) d.2 on)
+  by_work a slot k on (Makes mine m hasher opening) map d = absurd (subst (λ (x : Row). SettlesOn slot x) d.2 on)
 
   pub has_it : (a slot : ℕ) → SettlesOn slot (scene.world.row a) → Has a slot
   has_it a slot on =

@@ -79,7 +79,7 @@ module _ {K V S : Type 0} where
       by (Some leant) work own e p = absurd (not_making p)
       by None Nothing own e p = (own, e, p)
       by None (Calls machine) own e p = absurd (not_busy v.slot p)
-      by None (Makes m hasher opening) own e p = absurd (not_making p)
+      by None (Makes mine m hasher opening) own e p = absurd (not_making p)
 
   -- who is noted to stand so, and not to be busy, stands so, and has nothing else under way
   pub knows_free : (v : View K V S) (x : SlotView (Node K V)) → IsFreeSo x → (notes_of v).knows ≡ x → (v.under ≡ None) × (v.work ≡ Nothing) × (v.slot ≡ x)

@@ -96,7 +96,7 @@ module _ {K V S : Type 0} (same : K → K → Bool) (hash : S → K → ℕ) (fi
           let here = same_some leant.1 t section in
           let one = so.apart leant.0 id t (Inside 0) u base.0 v base.1 at_id (ap use_of base.2 ∙ ap (λ (b : ℕ). Some (b, Inside 0)) here) uses in
           unlent j x at (subst (λ (o : Option (ℕ × ℕ)). LeansOn o id) (sym e) one)
-  by_work j a x at on sh (Makes m hasher opening) map is d = no_rest (scene.world.row a) sh d.2
+  by_work j a x at on sh (Makes mine m hasher opening) map is d = no_rest (scene.world.row a) sh d.2
 
   nobody : (a : ℕ) → works_on (scene.world.row a) ≡ t + 1 → shares (scene.world.row a) ≡ true → ⊥
   nobody a on sh =

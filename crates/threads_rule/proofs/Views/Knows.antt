@@ -123,4 +123,4 @@ module _ {K V S : Type 0} (same : K → K → Bool) (hash : S → K → ℕ) (fi
       by None Nothing map own free aside d = has own free
       by None (Calls p) None own free aside d = absurd d
       by None (Calls p) (Some map) own free aside d = knows_inside fixed n j d.0 x.slot (own_section x.slot d.0 d.1)
-      by None (Makes m hasher opening) map own free aside d = knows_rests fixed n j x.slot d.0
+      by None (Makes mine m hasher opening) map own free aside d = knows_rests fixed n j x.slot d.0

@@ -49,4 +49,4 @@ module _ {K V S : Type 0} (same : K → K → Bool) (hash : S → K → ℕ) (ba
   of_call_lasts under slot (Some map) (Calls machine) does knows (inr next) =
       reclaimed_lasts
       (row_reclaims same hash batch_size roots s all map.number knows.0 knows.1 k b does.3.call does.3.here (subst (λ (y : Machine K V K). IsNextOf y b) (sym does.3.is) next))
-  of_call_lasts under slot map (Makes m hasher opening) does knows of = absurd of
+  of_call_lasts under slot map (Makes mine m hasher opening) does knows of = absurd of

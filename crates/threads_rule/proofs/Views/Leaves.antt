@@ -112,7 +112,7 @@ module _ {K V S : Type 0} (same : K → K → Bool) (hash : S → K → ℕ) whe
         where
           same_slot : slot_view.Inside d.0 NoBlock ≡ slot_view.Inside t has → d.0 ≡ t
           same_slot e = cc e
-      by (Makes m hasher opening) map d = let rests = d.0 in absurd (cc (rests, is))
+      by (Makes mine m hasher opening) map d = let rests = d.0 in absurd (cc (rests, is))
 
   -- and so is the one within whose section it has calls under way
   pub section_inside : (scene : Scene K V) (view : ℕ → Option (View K V S)) → ((j : ℕ) (v : View K V S) → view j ≡ Some v → Fits same hash scene j v)
@@ -201,7 +201,7 @@ module _ {K V S : Type 0} (same : K → K → Bool) (hash : S → K → ℕ) whe
     does_on k ne under slot apart within None (Calls p) f = absurd f
     does_on k ne under slot apart within (Some map) (Calls p) f =
         (f.0, f.1, section_on f.0 (within f.0 f.1) f.2, record { call = f.3.call; here = leaves.calls map.number k ne ∙ f.3.here; is = f.3.is }, subst (λ (x : Row). IsRowOn f.0 x) (sym (leaves.rows k ne)) f.4)
-    does_on k ne under slot apart within map (Makes n hasher opening) f = (
+    does_on k ne under slot apart within map (Makes mine n hasher opening) f = (
       f.0,
       record { making = f.1.making; here = leaves.makers k ne ∙ f.1.here; map = f.1.map; hashes = f.1.hashes; is = f.1.is; calls = λ a. leaves.calls a k ne ∙ f.1.calls a },
       leaves.rows k ne ∙ f.2,
@@ -213,7 +213,7 @@ module _ {K V S : Type 0} (same : K → K → Bool) (hash : S → K → ℕ) whe
 
     pair_on : (k : ℕ) → k ≢ i → (map : Option (Map S)) (work : SeatWork K V S) (runs : List (BegunCall K V)) → KnowsPair same hash s k map work runs → KnowsPair same hash next k map work runs
     pair_on k ne map Nothing runs f = tt
-    pair_on k ne map (Makes m hasher opening) runs f = tt
+    pair_on k ne map (Makes mine m hasher opening) runs f = tt
     pair_on k ne None (Calls p) runs f = tt
     pair_on k ne (Some map) (Calls p) runs f = λ u is. f u (sym (leaves.calls map.number k ne) ∙ is)
 

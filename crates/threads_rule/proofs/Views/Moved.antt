@@ -60,7 +60,7 @@ module _ {K V S : Type 0} (same : K → K → Bool) (hash : S → K → ℕ) (fi
   pub record Adds (id : ℕ) (act : Act K V S) (told : Answer K V) (v w : View K V S) (n : Scene K V) (calls : List (Called K V)) : Type 0 where
     pub own : IsItsOwn hash (Does act)
     pub others : (j : ℕ) → j ≢ id → (theirs : List (Called K V)) → calls_then j (Does act) told theirs ≡ theirs
-    pub its : AreRuns same hash n calls v.calls → AreRuns same hash n (calls_then id (Does act) told calls) w.calls
+    pub its : AreRuns same hash n calls v.calls → AreRuns same hash (calls_then id (Does act) told calls) w.calls
     pub newest : (machine : Machine K V K) → w.work ≡ Calls machine → IsNewest (caller_at id (acts_in w.under w.slot)) (calls_then id (Does act) told calls)
     pub aside : (j : ℕ) → j ≢ id → (theirs : Option (ℕ × Mem (Node K V))) → seen_then j (Does act) n.world.memory theirs ≡ theirs
     pub seen : (before : Option (ℕ × Mem (Node K V)))
@@ -219,19 +219,19 @@ module _ {K V S : Type 0} (same : K → K → Bool) (hash : S → K → ℕ) (fi
     more : (j : ℕ) → calls_of j (s.world.doings ++ Does act ∷ []) led_to.1 [] ≡ calls_then j (Does act) told (calls_before j)
     more j = calls_more j s.world.doings h.reached.1 (Does act) told [] long
 
-    still : (j : ℕ) → AreRuns same hash n (calls_before j) (runs_of (view_of s j))
+    still : (j : ℕ) → AreRuns same hash (calls_before j) (runs_of (view_of s j))
     still j =
         runs_on same hash scene_of n go.leaves.maps (calls_before j) (runs_of (view_of s j))
-        (subst (λ (x : Scene K V). AreRuns same hash x (calls_before j) (runs_of (view_of s j))) h.scene (h.calls j))
+        (subst (λ (x : Scene K V). AreRuns same hash (calls_before j) (runs_of (view_of s j))) h.scene (h.calls j))
 
-    calls : (j : ℕ) → (j ≡ id) ⊎ (j ≢ id) → AreRuns same hash n (calls_of j (s.world.doings ++ Does act ∷ []) led_to.1 []) (runs_of (slice_get (slice_set s.views id w) j))
+    calls : (j : ℕ) → (j ≡ id) ⊎ (j ≢ id) → AreRuns same hash (calls_of j (s.world.doings ++ Does act ∷ []) led_to.1 []) (runs_of (slice_get (slice_set s.views id w) j))
     calls j (inl e) =
-        subst (λ (runs : List (BegunCall K V)). AreRuns same hash n (calls_of j (s.world.doings ++ Does act ∷ []) led_to.1 []) runs) (ap runs_of (sym (here j e)))
+        subst (λ (runs : List (BegunCall K V)). AreRuns same hash (calls_of j (s.world.doings ++ Does act ∷ []) led_to.1 []) runs) (ap runs_of (sym (here j e)))
         (subst (λ (c : List (Called K V)). AreRuns same hash n c w.calls) (sym (more j))
-        (subst (λ (a : ℕ). AreRuns same hash n (calls_then a (Does act) told (calls_before a)) w.calls) (sym e)
-        (adds.its (subst (λ (o : Option (View K V S)). AreRuns same hash n (calls_before id) (runs_of o)) at_id (still id)))))
+        (subst (λ (a : ℕ). AreRuns same hash (calls_then a (Does act) told (calls_before a)) w.calls) (sym e)
+        (adds.its (subst (λ (o : Option (View K V S)). AreRuns same hash (calls_before id) (runs_of o)) at_id (still id)))))
     calls j (inr ne) =
-        subst (λ (runs : List (BegunCall K V)). AreRuns same hash n (calls_of j (s.world.doings ++ Does act ∷ []) led_to.1 []) runs) (ap runs_of (before j ne))
+        subst (λ (runs : List (BegunCall K V)). AreRuns same hash (calls_of j (s.world.doings ++ Does act ∷ []) led_to.1 []) runs) (ap runs_of (before j ne))
         (subst (λ (c : List (Called K V)). AreRuns same hash n c (runs_of (view_of s j))) (sym (more j ∙ adds.others j ne (calls_before j))) (still j))
 
     newest : (j : ℕ) (x : View K V S) (machine : Machine K V K) → slice_get (slice_set s.views id w) j ≡ Some x → x.work ≡ Calls machine → (j ≡ id) ⊎ (j ≢ id)

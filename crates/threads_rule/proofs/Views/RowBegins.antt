@@ -158,7 +158,7 @@ module _ {K V S : Type 0} (same : K → K → Bool) (hash : S → K → ℕ) (fi
     by_work : (j : ℕ) (x : View K V S) → view_of s j ≡ Some x → k ≡ caller_at j (acts_in x.under x.slot) → (work : SeatWork K V S) (map : Option (Map S)) → x.work ≡ work
         → DoesSo same hash here k x.under x.slot map work → ⊥
     by_work j x at e Nothing map is d = let none = d.calls m in cc (none, on)
-    by_work j x at e (Makes n hasher opening) map is d = let none = d.1.calls m in cc (none, on)
+    by_work j x at e (Makes mine n hasher opening) map is d = let none = d.1.calls m in cc (none, on)
     by_work j x at e (Calls p) None is d = d
     by_work j x at e (Calls p) (Some map) is d =
         let f = (so same hash fixed s h id v at_id own).seats j x at in

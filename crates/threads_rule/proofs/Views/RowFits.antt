@@ -111,7 +111,7 @@ module _ {K V S : Type 0} (same : K → K → Bool) (hash : S → K → ℕ) (fi
       by (Calls p) (Some map) d =
           let mine = sym (ap use_of (own_section x.slot d.0 (ap (λ (u : Option (ℕ × ℕ)). section_of u x.slot) (sym lone) ∙ d.1))) ∙ uses in
           subst (λ (u : Use). IsInside u) none (subst (λ (b : ℕ). IsInside (scene.world.uses b)) (same_number (d.0, Inside 0) (t, a) mine) d.2)
-      by (Makes m hasher opening) map d = let two = sym (ap use_of d.0) ∙ uses in cc two
+      by (Makes mine m hasher opening) map d = let two = sym (ap use_of d.0) ∙ uses in cc two
 
   module _ (free : v.work ≡ Nothing) where
     pub its : HasRow scene i v.slot

@@ -88,7 +88,7 @@ module _ {K S : Type 0} (V : Type 0) (same : K → K → Bool) (hash : S → K �
       rows = λ j x e. row j x (with_last s.views j at_rest x e);
       own = h.own;
       calls = λ j.
-          subst (λ (runs : List (BegunCall K V)). AreRuns same hash s.world.scene (calls_of j s.world.doings h.reached.1 []) runs) (as_before j (slice_get (s.views ++ at_rest ∷ []) j) refl) (h.calls j);
+          subst (λ (runs : List (BegunCall K V)). AreRuns same hash (calls_of j s.world.doings h.reached.1 []) runs) (as_before j (slice_get (s.views ++ at_rest ∷ []) j) refl) (h.calls j);
       newest = λ j x machine e works. newest j x machine works (with_last s.views j at_rest x e);
       seen = λ j x e. seen j x (with_last s.views j at_rest x e);
     },

@@ -426,8 +426,8 @@ module _ {K V S : Type 0} (same : K → K → Bool) (hash : S → K → ℕ) (fi
         others = λ j ne theirs.
             ap (λ (told : Answer K V). calls_then j (Does act) told theirs) came.tells ∙ ap (λ (q : Bool). if q then has_progressed i came.progress theirs else theirs) (is_other j id place fits.slot ne);
         its = λ are.
-            subst (λ (told : Answer K V). AreRuns same hash n (calls_then id (Does act) told calls) w.calls) (sym came.tells)
-            (subst (λ (q : Bool). AreRuns same hash n (if q then has_progressed i came.progress calls else calls) w.calls) (sym (is_its id place fits.slot))
+            subst (λ (told : Answer K V). AreRuns same hash (calls_then id (Does act) told calls) w.calls) (sym came.tells)
+            (subst (λ (q : Bool). AreRuns same hash (if q then has_progressed i came.progress calls else calls) w.calls) (sym (is_its id place fits.slot))
             (newest_runs same hash n i came.progress calls v.calls (h.newest id v machine at_id works) are));
         newest = λ other on. its_newest;
         aside = λ j ne theirs. ap (λ (q : Bool). if q then Some (i, n.world.memory) else theirs) (is_other j id place fits.slot ne);

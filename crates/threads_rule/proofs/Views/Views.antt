@@ -54,7 +54,7 @@ module _ {K V S : Type 0} (same : K → K → Bool) (hash : S → K → ℕ) (fi
     rows = λ k x at. let o = had k x at in subst (λ (z : SlotView (Node K V)). KnowsRow fixed s.world.scene k z) (sym o.slot) (h.rows k o.knew o.at);
     own = h.own;
     calls = λ k.
-        subst (λ (runs : List (BegunCall K V)). AreRuns same hash s.world.scene (calls_of k s.world.doings h.reached.1 []) runs) (as_before k (slice_get views k) refl) (h.calls k);
+        subst (λ (runs : List (BegunCall K V)). AreRuns same hash (calls_of k s.world.doings h.reached.1 []) runs) (as_before k (slice_get views k) refl) (h.calls k);
     newest = λ k x machine at works.
         let o = had k x at in newest k x machine works o o.under;
     seen = λ k x at. let o = had k x at in sees k x o o.under;

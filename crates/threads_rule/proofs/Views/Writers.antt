@@ -137,7 +137,7 @@ module _ {K V S : Type 0} (same : K → K → Bool) (hash : S → K → ℕ) (s 
     by_work : (work : SeatWork K V S) (map : Option (Map S)) → KnowsMap same hash scene map → LooksAside k.knows.under map work
         → DoesSo same hash scene a k.knows.under k.knows.slot map work → HoldsSlot a
     by_work Nothing map known only does = absurd (let none = does.calls m in cc (none, has))
-    by_work (Makes n hasher opening) map known only does = absurd (let none = does.1.calls m in cc (none, has))
+    by_work (Makes mine n hasher opening) map known only does = absurd (let none = does.1.calls m in cc (none, has))
     by_work (Calls machine) None known only does = absurd does
     by_work (Calls machine) (Some map) (it, there, setting, hashes) only (t, section, inside, call, on) =
         let number : map.number ≡ m = once map.number m a (λ none. (let is = call.here in cc (none, is))) (λ none. cc (none, has)) in

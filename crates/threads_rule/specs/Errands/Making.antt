@@ -1,5 +1,5 @@
 -- What a seat knows while it makes a map of no table, and once that is there.
-use Rattle.std.specs.Prelude.{◌≡◌, ℕ, ◌+◌, ◌-◌, ◌^◌, ◌<◌, Some, Result, IfOk, IfErr}
+use Rattle.std.specs.Prelude.{false, ◌≡◌, ℕ, ◌+◌, ◌-◌, ◌^◌, ◌<◌, Some, Result, IfOk, IfErr}
 use Rattle.std.specs.Int.{IsPowerOfTwo}
 use Rattle.seize_words.specs.declared.fault.Fault.{Fault}
 use Rattle.seize.specs.declared.advance.Advance.{Advance}
@@ -60,7 +60,7 @@ module _ {K V S : Type 0} where
   -- it makes a map of no table by this machine, which has not ended, with this hasher
   pub record MakesMap (hasher : S) (opening : NewMap) (v : View K V S) : Type 0 where
     pub number : ℕ
-    pub works : v.work ≡ Makes number hasher opening
+    pub works : v.work ≡ Makes false number hasher opening
     pub early : IsEarly opening.stands
     pub none : opening.len ≡ 0
 
