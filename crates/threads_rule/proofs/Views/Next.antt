@@ -27,7 +27,7 @@ use Rattle.threads_rule.specs.declared.view.Map.{Map}
 use Rattle.threads_rule.specs.declared.view.SeatWork.TheVariants.{Calls}
 use Rattle.threads_rule.proofs.Views.Made.{call_keeps}
 use Rattle.threads_rule.proofs.Views.Numbers.{slot_at}
-use Rattle.threads_rule.proofs.Views.Ran.{Ran, ran_stays, ran_ends_none, ran_keeps, ran_passes}
+use Rattle.threads_rule.proofs.Views.Ran.{Ran, ran_stays, ran_keeps, ran_passes}
 use Rattle.threads_rule.proofs.Views.Sections.{calls_ran}
 use Rattle.threads_rule.proofs.Views.Leaves.{Leaves, own_section, section_on, inside_alike, call_here, call_other, call_elsewhere}
 use Rattle.seize_words.proofs.General.{same_some}
@@ -67,11 +67,11 @@ module _ {K V S : Type 0} (same : K → K → Bool) (hash : S → K → ℕ) (ba
       rows = did.rows;
       calls = λ n k ne. call_other s.calls m i did.next n k ne;
       makers = λ k ne. refl;
-      enders = λ k. refl;
+      enders = λ k ne. refl;
       uses = λ a used apart. did.slots.uses a;
-      maps = λ n r is. maps n r is (cases_eq n m);
-      held = λ a b apart is held over. (ran_stays deferred_word batch_size i s.world did.w2 r ran a is).1 b held over;
-      ended = ran_ends_none deferred_word batch_size i s.world did.w2 r ran;
+      ends = None;
+      maps = λ n r lasts is. maps n r is (cases_eq n m);
+      held = λ a b n r2 apart is lasts stood owner held. (ran_stays deferred_word batch_size i s.world did.w2 r ran a is).1 b held;
       made = λ k ne. call_keeps same hash batch_size roots s all m it stands i u m2 machine told did k ne;
       keeps = ran_keeps deferred_word batch_size i s.world did.w2 r ran;
       passes = λ c ne. ran_passes deferred_word batch_size i c ne s.world did.w2 r ran;

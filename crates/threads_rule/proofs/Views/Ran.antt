@@ -23,7 +23,7 @@ use Rattle.seize_acts.specs.Bounds.Bounds.{IsOfOthers, IsAloneOnSlot, Meanwhile}
 use Rattle.seize_acts.proofs.Bounds.Bounds.Passing.{event_row}
 use Rattle.seize_views.proofs.Views.Steps.{step_keeps}
 use Rattle.seize_views.proofs.Views.Handed.{users_keep}
-use Rattle.threads_rule.proofs.Views.Quiet.{HandsOne, Stayed, SameOwners, users_stay, users_end_none, row_stays, row_ends_none}
+use Rattle.threads_rule.proofs.Views.Quiet.{HandsOne, Stayed, users_stay, row_stays}
 use Rattle.seize_model.proofs.Alone.Histories.UsersTurn.{AreUsers as AllOfUsers}
 
 -- what users do is nobody's row
@@ -61,10 +61,6 @@ module _ {T : Type 0} (defers : T → Option ℕ) (size : ℕ) where
     pub ran_stays : Ran i w v → (t : ℕ) → IsInside (w.uses t) → Stayed defers size w v t
     ran_stays (inl (events, users, runs)) t inside = users_stay defers size events w v r users runs t
     ran_stays (inr step) t inside = row_stays defers size w v i r step t inside
-
-    pub ran_ends_none : Ran i w v → SameOwners defers size w v
-    ran_ends_none (inl (events, users, runs)) = users_end_none defers size events w v users runs
-    ran_ends_none (inr step) = row_ends_none defers size w v i r step
 
     begun_memory : (request : Request) (x : World T) → HandsOne defers size request → Happens defers size (Begin i request) w x → x.memory ≡ w.memory
     begun_memory (Retire s b) x is h = ap (λ (u : World T). u.memory) h.1.2
