@@ -58,10 +58,10 @@ machine = machine_for same hash map 0 (Get 5)
 
 -- it has begun just this call, which has told this
 abbrev ran : Progress (Node ℕ ℕ) → List (BegunCall ℕ ℕ)
-ran told = record { began = machine; told = told } ∷ []
+ran told = record { map = 0; began = machine; told = told } ∷ []
 
 abbrev with_work : SeatWork ℕ ℕ ℕ → View ℕ ℕ ℕ
-with_work work = record { slot = Inside 0 NoBlock; under = None; map = Some map; work = work; looks = []; held = []; began = NotYet; calls = ran untold }
+with_work work = record { slot = Inside 0 NoBlock; under = None; by = None; own = None; map = Some map; work = work; looks = []; held = []; began = NotYet; calls = ran untold }
 
 abbrev answered : KeyAnswer → View ℕ ℕ ℕ
 answered answer = record (with_work Nothing) { calls = ran (Done (Key answer)) }
@@ -91,7 +91,7 @@ not_on (end, follows, is, may, came, hands, shows) =
 
 -- a call that has begun to store a pair hands that one back, and no other one
 abbrev stores : List (BegunCall ℕ ℕ)
-stores = record { began = machine_for same hash map 0 (Insert 5 7); told = untold } ∷ []
+stores = record { map = 0; began = machine_for same hash map 0 (Insert 5 7); told = untold } ∷ []
 
 hands_no_other : HandsBack stores (Unstored (Pair 5 8)) → ⊥
 hands_no_other hands = let is = hands (Pair 5 7) refl in cc is

@@ -204,7 +204,7 @@ module _ {K V S : Type 0} (same : K → K → Bool) (hash : S → K → ℕ) whe
     does_on k ne under slot apart within (Some map) (Calls p) f =
         (f.0, f.1, section_on f.0 (within f.0 f.1) f.2, record { call = f.3.call; here = leaves.calls map.number k ne ∙ f.3.here; is = f.3.is }, subst (λ (x : Row). IsRowOn f.0 x) (sym (leaves.rows k ne)) f.4)
     does_on k ne under slot apart within map (Ends machine) f =
-        (f.0, record { ending = f.1.ending; here = leaves.enders k ne ∙ f.1.here; is = f.1.is }, leaves.rows k ne ∙ f.2)
+        (f.0, record { ending = f.1.ending; here = leaves.enders k ne ∙ f.1.here; is = f.1.is; calls = λ a. leaves.calls a k ne ∙ f.1.calls a }, leaves.rows k ne ∙ f.2)
     does_on k ne under slot apart within map (Makes mine n hasher opening) f = (
       f.0,
       record { making = f.1.making; here = leaves.makers k ne ∙ f.1.here; map = f.1.map; hashes = f.1.hashes; is = f.1.is; calls = λ a. leaves.calls a k ne ∙ f.1.calls a },

@@ -20,7 +20,7 @@ use Rattle.seize_views.specs.Views.Rows.{use_of}
 use Rattle.seize_views.specs.declared.view.Fixed.{Fixed}
 use Rattle.seize_views.proofs.Views.Lists.{there, elsewhere}
 use Rattle.threads_rule.specs.Views.Listed.{Called, calls_then, calls_of, seen_then, seen_of, AreNumbered, IsItsOwn, IsNewest}
-use Rattle.threads_rule.specs.Views.Rule.{MapsWorld, IsSlot, IsIdle, KnowsMap, IsOfMap, IsOwner, AreApart, IsBy, Fits, AreSo, KnowsRow, AreRuns, HasSeen, Holds, KeepsFor, IsLeant, LeansOn, Leans, caller_at, acts_in, section_of, place_of, runs_of, IsFresh}
+use Rattle.threads_rule.specs.Views.Rule.{MapsWorld, IsSlot, IsIdle, KnowsMap, IsOfMap, IsOwner, AreApart, IsBy, Fits, AreSo, KnowsRow, AreRuns, HasSeen, Holds, KeepsFor, IsLeant, LeansOn, LeansUnder, Leans, caller_at, acts_in, section_of, place_of, runs_of, IsFresh}
 use Rattle.threads_rule.specs.declared.view.BegunCall.{BegunCall}
 use Rattle.threads_rule.specs.declared.view.Map.{Map}
 use Rattle.threads_rule.specs.declared.view.View.{View}
@@ -74,7 +74,7 @@ module _ {K V S : Type 0} (same : K → K → Bool) (hash : S → K → ℕ) (fi
     pub under : (x : View K V S) → view_of s id ≡ Some x → w.under ≡ x.under
     pub knows : (x : View K V S) → view_of s id ≡ Some x → KnowsThen id x w
     pub gone : (m : ℕ) → leaves.ends ≡ Some m → IsUnlent Leans id s × ((x : View K V S) → view_of s id ≡ Some x → (b : Map S) × (x.own ≡ Some b) × (b.number ≡ m))
-    pub leant : ((mine ≡ None) × ((x : View K V S) → view_of s id ≡ Some x → w.slot ≡ x.slot)) ⊎ IsUnlent Leans id s
+    pub leant : ((mine ≡ None) × ((x : View K V S) → view_of s id ≡ Some x → w.slot ≡ x.slot)) ⊎ IsUnlent LeansUnder id s
     pub fresh : (k : ℕ) × IsFresh n k × AreNumbered 0 (s.world.doings ++ Does act ∷ []) k
     pub row : KnowsRow fixed n id w.slot
 
@@ -132,7 +132,7 @@ module _ {K V S : Type 0} (same : K → K → Bool) (hash : S → K → ℕ) (fi
         by (inr ne) = (base.0, sym (before m2 ne) ∙ base.1, base.2)
         by (inl one) = elim go.leant as (λ _. IsLeant (λ k. slice_get (slice_set s.views id w) k) m2 t) [
           | inl stays ↦ (w, here m2 one, stays.1 base.0 (ap (view_of s) (sym one) ∙ base.1) ∙ base.2)
-          | inr unlent ↦ absurd (unlent j x at (inl (subst (λ (o : Option (ℕ × ℕ)). LeansOn o id) (sym e) one)))
+          | inr unlent ↦ absurd (unlent j x at (subst (λ (o : Option (ℕ × ℕ)). LeansOn o id) (sym e) one))
         ]
 
     not_mine : (j : ℕ) (x : View K V S) → j ≢ id → view_of s j ≡ Some x → (a : ℕ) → section_of x.under x.slot ≡ Some a → (u : Use) → go.mine ≡ Some (a, u) → ⊥
@@ -152,7 +152,7 @@ module _ {K V S : Type 0} (same : K → K → Bool) (hash : S → K → ℕ) (fi
             other (inr ne2) = go.theirs at_it.0 a (Inside 0) u base.0 ne2 base.1 uses mine
             other (inl one) = elim go.leant as (λ _. ⊥) [
               | inl stays ↦ let none = stays.0 in cc (none, mine)
-              | inr unlent ↦ unlent j x at (inl (subst (λ (o : Option (ℕ × ℕ)). LeansOn o id) (sym e) one))
+              | inr unlent ↦ unlent j x at (subst (λ (o : Option (ℕ × ℕ)). LeansOn o id) (sym e) one)
             ]
 
     within : (j : ℕ) (x : View K V S) → view_of s j ≡ Some x → (a : ℕ) → section_of x.under x.slot ≡ Some a → IsInside (scene_of.world.uses a)

@@ -72,8 +72,12 @@ section_of None (slot_view.Inside t NoBlock) = Some t
 section_of None v = None
 
 -- where a seat stands: what it knows of its slot, and on whom it leans
-abbrev pub stand_of : {K V S : Type 0} → View K V S → SlotView (Node K V) × Option (ℕ × ℕ)
-stand_of v = (v.slot, v.under)
+abbrev pub side_of : {K V S : Type 0} → View K V S → SlotView (Node K V) × Option (ℕ × ℕ)
+side_of v = (v.slot, v.under)
+
+-- and on which owner of a map
+abbrev pub stand_of : {K V S : Type 0} → View K V S → (SlotView (Node K V) × Option (ℕ × ℕ)) × Option ℕ
+stand_of v = (side_of v, v.by)
 
 -- who leans on a seat holds no slot
 abbrev pub IsAside : {T : Type 0} → Option (ℕ × ℕ) → SlotView T → Type 0
@@ -90,8 +94,12 @@ abbrev pub IsBy : Option ℕ → ℕ → Type 0
 IsBy None n = ⊥
 IsBy (Some owner) n = owner ≡ n
 
+-- the one whose section it acts in
+abbrev pub LeansUnder : {K V S : Type 0} → View K V S → ℕ → Type 0
+LeansUnder v n = LeansOn v.under n
+
 abbrev pub Leans : {K V S : Type 0} → View K V S → ℕ → Type 0
-Leans v n = LeansOn v.under n ⊎ IsBy v.by n
+Leans v n = LeansUnder v n ⊎ IsBy v.by n
 
 -- the seat of this number is within a section of the slot
 abbrev pub IsLeant : {K V S : Type 0} → (ℕ → Option (View K V S)) → ℕ → ℕ → Type 0
@@ -166,6 +174,7 @@ module _ {K V : Type 0} where
     pub ending : Finishing K V
     pub here : s.enders i ≡ Some ending
     pub is : ending.machine ≡ machine
+    pub calls : (n : ℕ) → s.calls n i ≡ None
 
   -- nothing but this row, and its slot is used so
   pub record HasRow (s : Scene K V) (i : ℕ) (v : SlotView (Node K V)) : Type 0 where
