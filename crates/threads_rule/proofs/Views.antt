@@ -29,8 +29,10 @@ pub mod Held
 pub mod Begins
 pub mod Handing
 pub mod Leanings
+pub mod Loans
 pub mod Keeping
 pub mod Makings
+pub mod Endings
 pub mod RowFits
 pub mod RowSteps
 pub mod RowBegins

@@ -1,6 +1,7 @@
 -- A pair with which a call on one key has answered is in the memory, with its value; and the section of its slot held it before that step, or it is in use then.
 use Rattle.std.specs.Prelude.{Some}
 use Rattle.std.proofs.Common.{◌≡◌, ℕ, ◌<◌, ◌^◌, Bool, true, false, ◌⊎◌, inl, inr, refl, sym, subst, ap, ◌∙◌}
+use Rattle.std.proofs.lemmas.Bool.{cases_lt}
 use Rattle.seize_words.specs.OneMemory.Mem.{Mem, value_at}
 use Rattle.seize_words.specs.OneMemory.Word.{block_in}
 use Rattle.seize.specs.Law.{holds, owner_of}
@@ -150,11 +151,17 @@ module _ {K V : Type 0} (same : K → K → Bool) (batch_size roots : ℕ) (s : 
 
       -- what may be looked at then is the map's
       its_own : owner_of (to.step.went.blocks2.pair n) to.step.went.w2.log ≡ it.setting.counter
-      its_own = its_owner (to.step.grown.pairs n was)
-        where
-          its_owner : (to.step.blocks2.pair n ≡ to.step.went.blocks2.pair n) × (to.step.blocks2.pair_known n ≡ to.step.went.blocks2.pair_known n)
-              → owner_of (to.step.went.blocks2.pair n) to.step.went.w2.log ≡ it.setting.counter
-          its_owner e = ap (λ (b : ℕ). owner_of b to.step.went.w2.log) (sym e.0) ∙ to.step.together.ground.owned.pairs n was (e.1 ∙ known)
+      its_own = elim (cases_lt n it.chart.stored) as (λ _. owner_of (to.step.went.blocks2.pair n) to.step.went.w2.log ≡ it.setting.counter) [
+        | inl less ↦
+            let back = to.step.went.blocks_same.pairs_back n less known in
+            let visible = ((all.makings.standing.each m it here).ground.sight (slot_of i) ((all.makings.standing.each m it here).inside i (OnKey x) at_i)).0.pairs n less back in
+            let same_block = (to.step.went.blocks_same.pairs n less back).0 in
+            let grown = to.step.grown.pairs n less in
+            ap (λ (b : ℕ). owner_of b to.step.went.w2.log) (same_block ∙ sym grown.0) ∙ to.step.together.ground.owned.pairs n was (grown.1 ∙ visible)
+        | inr new ↦
+            let grown = to.step.grown.new_pairs n new in
+            ap (λ (b : ℕ). owner_of b to.step.went.w2.log) (sym grown.0) ∙ to.step.together.ground.owned.pairs n was (grown.1 ∙ known)
+      ]
 
       why : ((n < it.chart.stored) × (seen.pair_known n ≡ true) × (to.step.went.blocks2.pair n ≡ seen.pair n)) ⊎ (to.step.went.c2.current n ≡ true)
           → (holds (slot_of i) (to.step.went.blocks2.pair n) s.world.log ≡ true) ⊎ ((o : ℕ) × (did.w2.hand (to.step.went.blocks2.pair n) ≡ InUse o))

@@ -32,7 +32,7 @@ use Rattle.threads_rule.specs.declared.view.View.{View}
 use Rattle.threads_rule.specs.declared.view.SeatWork.{SeatWork}
 use Rattle.threads_rule.specs.declared.view.SeatWork.TheVariants.{Nothing, Calls}
 use Rattle.threads_rule.proofs.Views.Knows.{knows_within}
-use Rattle.threads_rule.proofs.Views.Leaves.{Leaves, leaves_all, own_section, section_place, section_inside, own_idle, map_on, all_last, call_here}
+use Rattle.threads_rule.proofs.Views.Leaves.{Leaves, leaves_all, none_ends, own_section, section_place, section_inside, own_idle, map_on, all_last, call_here}
 use Rattle.threads_rule.proofs.Views.Listed.{is_its, is_other, numbered_on}
 use Rattle.threads_rule.proofs.Views.Moved.{scene_of, all_stand, are_so, Moved, Adds, same_maps, same_slot, moved}
 use Rattle.threads_rule.proofs.Views.Numbers.{slot_at}
@@ -120,6 +120,10 @@ module _ {K V S : Type 0} (same : K → K → Bool) (hash : S → K → ℕ) (fi
     leaves : Leaves same hash fixed.batch_size scene n i None
     leaves = leaves_all same hash fixed.batch_size scene map.number i (Some u)
 
+    stand : leaves.ends ≡ None
+    unfolding leaves
+    stand = none_ends same hash fixed.batch_size scene map.number i (Some u)
+
     go : LooksAside v.under (Some map) (Calls machine) → (act : Act K V S) (runs : List (BegunCall K V)) → AreNumbered 0 (s.world.doings ++ Does act ∷ []) (are_so same hash fixed s h).fresh.0 → pair_of u ≡ pair_in runs
         → Moved same hash fixed s h id act s.memory (w runs) n
     go only act runs numbered pair = record {
@@ -128,8 +132,8 @@ module _ {K V S : Type 0} (same : K → K → Bool) (hash : S → K → ℕ) (fi
         slot = fits.slot;
         does = subst (λ (x : Option (Map S)). DoesSo same hash n i v.under v.slot x (Calls machine)) (sym knows) its_does;
         aside = fits.aside;
-        map = map_on same hash scene n id place fits.slot fixed.batch_size None leaves v.map (all_last same hash scene n id place fits.slot fixed.batch_size None leaves refl v.map) fits.map;
-        own = map_on same hash scene n id place fits.slot fixed.batch_size None leaves v.own (all_last same hash scene n id place fits.slot fixed.batch_size None leaves refl v.own) fits.own;
+        map = map_on same hash scene n id place fits.slot fixed.batch_size None leaves v.map (all_last same hash scene n id place fits.slot fixed.batch_size None leaves stand v.map) fits.map;
+        own = map_on same hash scene n id place fits.slot fixed.batch_size None leaves v.own (all_last same hash scene n id place fits.slot fixed.batch_size None leaves stand v.own) fits.own;
         only = subst (λ (x : Option (Map S)). LooksAside v.under x (Calls machine)) (sym knows) only;
         held = tt;
         pair =
@@ -145,7 +149,7 @@ module _ {K V S : Type 0} (same : K → K → Bool) (hash : S → K → ℕ) (fi
       alone = same_slot same hash fixed s h id v (w runs) at_id refl;
       under = λ x at. ap (λ (y : View K V S). y.under) (same_some v x (sym at_id ∙ at));
       knows = same_maps same hash fixed s h id v (w runs) at_id refl refl refl;
-      gone = λ m e. absurd (cc e);
+      gone = λ m e. absurd (cc (stand, e));
       leant = inl (refl, λ x at. ap (λ (y : View K V S). y.slot) (same_some v x (sym at_id ∙ at)));
       fresh = ((are_so same hash fixed s h).fresh.0, (are_so same hash fixed s h).fresh.1, numbered);
       row = knows_within fixed n id t v.under v.slot fits.aside section;

@@ -160,6 +160,10 @@ module _ {K V S : Type 0} (same : K → K → Bool) (hash : S → K → ℕ) whe
     passes = λ c ne was now. ([], refl);
   }
 
+  pub none_ends : (size : ℕ) (s : Scene K V) (m i : ℕ) (it : Option (UnderWay K V K)) → (leaves_all size s m i it).ends ≡ None
+  unfolding leaves_all
+  none_ends size s m i it = refl
+
   module _ (s next : Scene K V) (id t : ℕ) (its_slot : IsSlot t) (size : ℕ) (mine : Option (ℕ × Use)) (leaves : Leaves size s next (caller_at id t) mine) where
     abbrev i : ℕ
     i = caller_at id t

@@ -127,6 +127,10 @@ module _ {K V S : Type 0} (same : K → K → Bool) (hash : S → K → ℕ) (fi
       passes = λ c ne was now. ([], refl);
     }
 
+    stand : leaves.ends ≡ None
+    unfolding leaves
+    stand = refl
+
     abbrev w : View K V S
     w = making v mine m hasher (opening given fixed.roots places)
 
@@ -145,8 +149,8 @@ module _ {K V S : Type 0} (same : K → K → Bool) (hash : S → K → ℕ) (fi
         slot = fits.slot;
         aside = fits.aside;
         does = (rests, record { making = b; here = at_same scene.makers i (Some b) i refl; map = refl; hashes = refl; is = refl; calls = has_row.calls }, has_row.row);
-        map = map_on same hash scene n id place fits.slot fixed.batch_size None leaves v.map (all_last same hash scene n id place fits.slot fixed.batch_size None leaves refl v.map) fits.map;
-        own = map_on same hash scene n id place fits.slot fixed.batch_size None leaves v.own (all_last same hash scene n id place fits.slot fixed.batch_size None leaves refl v.own) fits.own;
+        map = map_on same hash scene n id place fits.slot fixed.batch_size None leaves v.map (all_last same hash scene n id place fits.slot fixed.batch_size None leaves stand v.map) fits.map;
+        own = map_on same hash scene n id place fits.slot fixed.batch_size None leaves v.own (all_last same hash scene n id place fits.slot fixed.batch_size None leaves stand v.own) fits.own;
         only = tt;
         held = tt;
         pair = tt;
@@ -160,7 +164,7 @@ module _ {K V S : Type 0} (same : K → K → Bool) (hash : S → K → ℕ) (fi
       alone = same_slot same hash fixed s h id v w at_id refl;
       under = λ x at. ap (λ (y : View K V S). y.under) (same_some v x (sym at_id ∙ at));
       knows = same_maps same hash fixed s h id v w at_id refl refl refl;
-      gone = λ a e. absurd (cc e);
+      gone = λ a e. absurd (cc (stand, e));
       leant = inl (refl, λ x at. ap (λ (y : View K V S). y.slot) (same_some v x (sym at_id ∙ at)));
       fresh = (
         m + 1,
@@ -279,6 +283,10 @@ module _ {K V S : Type 0} (same : K → K → Bool) (hash : S → K → ℕ) (fi
           passes = λ c ne. ran_passes deferred_word fixed.batch_size i c ne scene.world w2 reached ran;
         }
 
+        none_ends : step_leaves.ends ≡ None
+        unfolding step_leaves
+        none_ends = refl
+
         fresh_on : (j : ℕ) (e : Beginning K) → with_at scene.makers i it j ≡ Some e → (j ≡ i) ⊎ (j ≢ i) → e.map < so.fresh.0
         fresh_on j e is (inl one) =
             let its = same_map e (sym (at_same scene.makers i it j one) ∙ is) in let less = so.fresh.1.1 i d led.1 in omega (arith, its, less)
@@ -297,7 +305,7 @@ module _ {K V S : Type 0} (same : K → K → Bool) (hash : S → K → ℕ) (fi
           alone = same_slot same hash fixed s h id v x at_id slot_is;
           under = λ y at. under_is ∙ ap (λ (z : View K V S). z.under) (same_some v y (sym at_id ∙ at));
           knows = knows;
-          gone = λ a e. absurd (cc e);
+          gone = λ a e. absurd (cc (none_ends, e));
           leant = inl (refl, λ y at. slot_is ∙ ap (λ (z : View K V S). z.slot) (same_some v y (sym at_id ∙ at)));
           fresh = (so.fresh.0, (none, (λ j e is. fresh_on j e is (cases_eq j i))), numbered_on s.world.doings (Does (StepsMaking i granted.0) ∷ []) 0 so.fresh.0 so.fresh.0 so.fresh.2 refl);
           row = knows_rests fixed n2 id x.slot (slot_is ∙ does.0);
@@ -307,10 +315,10 @@ module _ {K V S : Type 0} (same : K → K → Bool) (hash : S → K → ℕ) (fi
         its_idle = own_idle same hash scene n2 id place fits.slot fixed.batch_size None step_leaves fits.idle
 
         map_still : KnowsMap same hash n2 v.map
-        map_still = map_on same hash scene n2 id place fits.slot fixed.batch_size None step_leaves v.map (all_last same hash scene n2 id place fits.slot fixed.batch_size None step_leaves refl v.map) fits.map
+        map_still = map_on same hash scene n2 id place fits.slot fixed.batch_size None step_leaves v.map (all_last same hash scene n2 id place fits.slot fixed.batch_size None step_leaves none_ends v.map) fits.map
 
         own_still : KnowsMap same hash n2 v.own
-        own_still = map_on same hash scene n2 id place fits.slot fixed.batch_size None step_leaves v.own (all_last same hash scene n2 id place fits.slot fixed.batch_size None step_leaves refl v.own) fits.own
+        own_still = map_on same hash scene n2 id place fits.slot fixed.batch_size None step_leaves v.own (all_last same hash scene n2 id place fits.slot fixed.batch_size None step_leaves none_ends v.own) fits.own
 
         -- the making is over
         over : it ≡ None → HasRow n2 i v.slot

@@ -1,6 +1,6 @@
 -- An act of a seat makes the rule hold again, where it has left what the other seats know.
 use Rattle.std.specs.Prelude.{◌≢◌, ◌++◌, length, Option, Some, None, slice_get, slice_set}
-use Rattle.std.proofs.Common.{◌≡◌, ℕ, Bool, List, [], ◌∷◌, ◌⊎◌, inl, inr, refl, sym, subst, ap, ◌∙◌}
+use Rattle.std.proofs.Common.{◌≡◌, ℕ, Bool, true, List, [], ◌∷◌, ◌⊎◌, inl, inr, refl, sym, subst, ap, ◌∙◌}
 use Rattle.std.proofs.lemmas.Bool.{cases_eq}
 use Rattle.seize_words.specs.OneMemory.Mem.{Mem}
 use Rattle.seize.specs.Law.{holds}
@@ -269,7 +269,7 @@ module _ {K V S : Type 0} (same : K → K → Bool) (hash : S → K → ℕ) (fi
         let at_j = before j ne ∙ at in
         let is = same_some w y (sym (here k one) ∙ at2) in
         let f = are_so.seats j x at_j in
-        elim knew.mine mine (ap (λ (z : View K V S). z.own) is ∙ e) as (λ _. AreApart j k x y mine) [
+        elim (knew.mine mine (ap (λ (z : View K V S). z.own) is ∙ e)) as (λ _. AreApart j k x y mine) [
           | inl had ↦
               let base = are_so.maps j id x v mine at_j at_id had in
               record { known = λ a g number. base.known a g number ∙ ap (λ (c : ℕ). Some c) (sym one); owned = λ a g number. base.owned a g number ∙ sym one }
@@ -284,11 +284,11 @@ module _ {K V S : Type 0} (same : K → K → Bool) (hash : S → K → ℕ) (fi
         let f = are_so.seats k y at_k in
         let base = are_so.maps id k v y mine at_id at_k e in
         record {
-          known = λ a g number. elim knew.map a (ap (λ (z : View K V S). z.map) is ∙ g) as (λ _. x.by ≡ Some k) [
+          known = λ a g number. elim (knew.map a (ap (λ (z : View K V S). z.map) is ∙ g)) as (λ _. x.by ≡ Some k) [
             | inl had ↦ ap (λ (z : View K V S). z.by) (sym is) ∙ had.1 ∙ base.known a had.0 number
             | inr none ↦ absurd (none_stood y.own f.own mine a e none (sym number))
           ];
-          owned = λ a g number. elim knew.mine a (ap (λ (z : View K V S). z.own) is ∙ g) as (λ _. j ≡ k) [
+          owned = λ a g number. elim (knew.mine a (ap (λ (z : View K V S). z.own) is ∙ g)) as (λ _. j ≡ k) [
             | inl had ↦ one ∙ base.owned a had number
             | inr none ↦ absurd (none_stood y.own f.own mine a e none (sym number))
           ];
@@ -309,7 +309,7 @@ module _ {K V S : Type 0} (same : K → K → Bool) (hash : S → K → ℕ) (fi
             sym same_by ∙ had.1 ∙ (are_so.maps id id v v mine at_id at_id was).known a had.0 number ∙ ap (λ (c : ℕ). Some c) (sym other)
         known a g e2 number same_by f (inl had) (inr none) = absurd (none_stood v.map f.map a mine had.0 none number)
         known a g e2 number same_by f (inr none) (inl was) = absurd (none_stood v.own f.own mine a was none (sym number))
-        known a g e2 number same_by f (inr none) (inr none2) = elim knew.apart a mine g e2 as (λ _. x.by ≡ Some k) [
+        known a g e2 number same_by f (inr none) (inr none2) = elim (knew.apart a mine g e2) as (λ _. x.by ≡ Some k) [
           | inl had ↦ absurd (none_stood v.map f.map a mine had none2 number)
           | inr was ↦ absurd (none_stood v.own f.own mine a was none (sym number))
         ]

@@ -86,6 +86,10 @@ module _ {K V S : Type 0} (same : K → K → Bool) (hash : S → K → ℕ) (ba
         maps n r is (inr ne) =
             let g = subst (λ (o : Option (Standing K)). IsSameMap o (did.maps2 n)) is (did.others n ne) in (record r { blocks = g.0; sights = g.1 }, g.2, refl, refl)
 
+    pub none_ends : step_leaves.ends ≡ None
+    unfolding step_leaves
+    none_ends = refl
+
     -- what a section holds it holds still
     pub step_held : (a : ℕ) → IsInside (s.world.uses a) → (b : ℕ) → holds a b s.world.log ≡ true
         → (holds a b did.w2.log ≡ true) × (owner_of b did.w2.log ≡ owner_of b s.world.log) × (value_at did.w2.memory b ≡ value_at s.world.memory b)

@@ -75,7 +75,7 @@ module _ {T : Type 0} (defers : T → Option ℕ) (size : ℕ) where
             cc (subst (λ (l : List Effect). holds t c l ≡ false) r.good.logged none, subst (λ (d : ℕ). holds t d w.log ≡ true) e held)
 
     apart : (b c : ℕ) → eqb b c ≡ false → b ≡ c → ⊥
-    apart b c no e = cc (no, subst (λ (d : ℕ). eqb b d ≡ true) e (eq-eqb b b refl))
+    apart b c other e = cc (other, subst (λ (d : ℕ). eqb b d ≡ true) e (eq-eqb b b refl))
 
     there : (b : ℕ) → holds t b w.log ≡ true → IsSome (value_at w.memory b)
     there b held = kept_there defers size w r b (IsHeld t held)
@@ -100,12 +100,12 @@ module _ {T : Type 0} (defers : T → Option ℕ) (size : ℕ) where
         as_it_was w v _ t h.4 (made_stays i h.1 h.0 (λ b held. made_value defers w.memory b value words h.0 h.1 (there b held) h.3))
     user_stays (Drops i c) v is h =
         as_it_was w v _ t h.4 (refl, λ b held.
-        let no = not_making b held c h.2 in
-        (ap (λ (q : Bool). cond q false (holds t b w.log)) no ∙ held, refl, taken_value defers w.memory b c h.0 h.1 h.3 (apart b c no)))
+        let other = not_making b held c h.2 in
+        (ap (λ (q : Bool). cond q false (holds t b w.log)) other ∙ held, refl, taken_value defers w.memory b c h.0 h.1 h.3 (apart b c other)))
     user_stays (Links i c o) v is h =
         as_it_was w v _ t h.1 (refl, λ b held.
-        let no = not_making b held c h.0 in
-        (ap (λ (q : Bool). cond q (is_open t w.log) (holds t b w.log)) no ∙ held, ap (λ (q : Bool). cond q o (owner_of b w.log)) no, refl))
+        let other = not_making b held c h.0 in
+        (ap (λ (q : Bool). cond q (is_open t w.log) (holds t b w.log)) other ∙ held, ap (λ (q : Bool). cond q o (owner_of b w.log)) other, refl))
     user_stays (Parts i c) v is h = as_it_was w v _ t h.1 (refl, λ b held. (held, refl, refl))
     user_stays (Unlinks i c) v is h = as_it_was w v _ t h.1 (refl, λ b held. (held, refl, refl))
     user_stays (Rewrites i c value) v is h =

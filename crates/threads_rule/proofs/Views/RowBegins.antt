@@ -243,12 +243,16 @@ module _ {K V S : Type 0} (same : K → K → Bool) (hash : S → K → ℕ) (fi
       passes = λ c ne was then_. (Begin me request ∷ [], (n, ne, g.happens, then_, refl));
     }
 
+    none_ends : leaves.ends ≡ None
+    unfolding leaves
+    none_ends = refl
+
     goes : (so_told : View K V S → Type 0) → so_told (w same hash fixed s h id v at_id own free u noted n led.2 led.3) → Goes (Holds same hash fixed) KeepsFor s s.memory id so_told
     goes so_told is =
         moved same hash fixed s h id v at_id (BeginsRow me request) may after
         (led.5 ∙ ap (λ (x : World (Node K V)). record here { world = x; maps = led.2 }) (sym same_world)) s.memory
         (w same hash fixed s h id v at_id own free u noted n led.2 led.3)
-        (go same hash fixed s h id v at_id own free u noted n led.2 led.3 leaves refl g.row (just_alike n (use_of u) g.used) (inr g.place)
+        (go same hash fixed s h id v at_id own free u noted n led.2 led.3 leaves none_ends g.row (just_alike n (use_of u) g.used) (inr g.place)
         (subst IsSlot (sym (held_place (use_of u) (use_of v.slot) g.place)) (its_place same hash fixed s h id v at_id own)) unlent (BeginsRow me request) numbered s.memory
         ((so same hash fixed s h id v at_id own).memory ∙ sym g.memory) g.plain g.short g.known g.bounded
         (λ j t a b x ne at uses its. let had = g.slot t b its in ne ((so same hash fixed s h id v at_id own).apart j id t a had.0 x v at at_id uses had.1)))

@@ -131,6 +131,10 @@ module _ {K V S : Type 0} (same : K → K → Bool) (hash : S → K → ℕ) (fi
         not_mine t apart on =
             let k = works_on_own v.slot (knows same hash fixed s h id v at_id own).short t (sym (ap works_on (its same hash fixed s h id v at_id own free).row) ∙ on) in apart k.0 k.1
 
+    none_ends : leaves.ends ≡ None
+    unfolding leaves
+    none_ends = refl
+
     -- nobody else has its slot
     alone : (j t : ℕ) (a b : Use) (x : View K V S) → j ≢ id → view_of s j ≡ Some x → use_of x.slot ≡ Some (t, a) → use_of u ≡ Some (t, b) → ⊥
     alone j t a b x ne at uses mine =
@@ -152,7 +156,7 @@ module _ {K V S : Type 0} (same : K → K → Bool) (hash : S → K → ℕ) (fi
         moved same hash fixed s h id v at_id (StepsRow me granted.0) may after
         (led.6 ∙ ap (λ (x : World (Node K V)). record (scene same hash fixed s h id v at_id own) { world = x; maps = led.3 }) (sym same_world)) m
         (w same hash fixed s h id v at_id own free u began n led.3 led.4)
-        (go same hash fixed s h id v at_id own free u began n led.3 led.4 leaves refl g.row (used_like n (use_of u) g.used) g.place (its_slot (use_of u) refl) unlent (StepsRow me granted.0) numbered m g.memory
+        (go same hash fixed s h id v at_id own free u began n led.3 led.4 leaves none_ends g.row (used_like n (use_of u) g.used) g.place (its_slot (use_of u) refl) unlent (StepsRow me granted.0) numbered m g.memory
         g.plain g.short g.known g.bounded alone)
         (record { own = ((λ a k. 0), tt); others = λ j ne theirs. refl; its = λ are. are; newest = λ other on. absurd (cc on); aside = λ j ne theirs. refl; seen = λ before b x none. absurd (cc none) }) so_told is
       where

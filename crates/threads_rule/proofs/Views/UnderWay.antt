@@ -63,7 +63,7 @@ use Rattle.threads_rule.proofs.Views.Leaves.{Leaves, section_place, section_on, 
 use Rattle.threads_rule.proofs.Views.Held.{value_of}
 use Rattle.threads_rule.proofs.Views.Listed.{is_its, is_other, newest_on, newest_runs, numbered_on}
 use Rattle.threads_rule.proofs.Views.Moved.{scene_of, all_stand, are_so, Moved, Adds, same_maps, same_slot, moved}
-use Rattle.threads_rule.proofs.Views.Next.{after, step_leaves, step_held, step_fresh, own_does}
+use Rattle.threads_rule.proofs.Views.Next.{after, step_leaves, none_ends, step_held, step_fresh, own_does}
 use Rattle.threads_rule.proofs.Views.Looked.{AllKnown, AllLooked, IsSo}
 use Rattle.threads_rule.proofs.Views.Naming.{IsThere, Known, none_more, of_these, one_more, with_told}
 use Rattle.threads_rule.proofs.Views.Shown.{is_read, pair_told, read_word, was_read}
@@ -236,6 +236,12 @@ module _ {K V S : Type 0} (same : K → K → Bool) (hash : S → K → ℕ) (fi
         step_leaves same hash fixed.batch_size fixed.roots scene all id place map.number fits.slot came.standing came.stands came.call came.here inside on_row came.memory came.machine came.progress
         came.did
 
+    stand : leaves.ends ≡ None
+    unfolding leaves
+    stand =
+        none_ends same hash fixed.batch_size fixed.roots scene all id place map.number fits.slot came.standing came.stands came.call came.here inside on_row came.memory came.machine came.progress
+        came.did
+
     knows_pair : KnowsPair same hash scene i (Some map) (Calls machine) v.calls
     knows_pair =
         subst (λ (x : SeatWork K V S). KnowsPair same hash scene i (Some map) x v.calls) works
@@ -258,7 +264,7 @@ module _ {K V S : Type 0} (same : K → K → Bool) (hash : S → K → ℕ) (fi
     its_counter = ap (λ (x : Setting). x.counter) it.2
 
     held_on : (b : ℕ) → IsOurs b → IsHeldThen b
-    held_on b ours = let g = leaves.held place b map.number it.0 (λ a e. cc e) inside (λ e. cc e) it.1 ours.1 ours.0 in (g.0, g.1 ∙ ours.1 ∙ its_counter)
+    held_on b ours = let g = leaves.held place b map.number it.0 (λ a e. cc e) inside (λ e. cc (stand, e)) it.1 ours.1 ours.0 in (g.0, g.1 ∙ ours.1 ∙ its_counter)
 
     used_held : (b o : ℕ) → n.world.hand b ≡ InUse o → holds place b n.world.log ≡ true
     used_held b o used =
@@ -399,8 +405,8 @@ module _ {K V S : Type 0} (same : K → K → Bool) (hash : S → K → ℕ) (fi
             (own_does same hash fixed.batch_size fixed.roots scene all id place map.number fits.slot came.standing came.stands came.call came.here inside on_row came.memory came.machine came.progress
             came.did v.under v.slot fits.aside section_is map refl came.progress came.did.goes_on);
         aside = fits.aside;
-        map = map_on same hash scene n id place fits.slot fixed.batch_size None leaves v.map (all_last same hash scene n id place fits.slot fixed.batch_size None leaves refl v.map) fits.map;
-        own = map_on same hash scene n id place fits.slot fixed.batch_size None leaves v.own (all_last same hash scene n id place fits.slot fixed.batch_size None leaves refl v.own) fits.own;
+        map = map_on same hash scene n id place fits.slot fixed.batch_size None leaves v.map (all_last same hash scene n id place fits.slot fixed.batch_size None leaves stand v.map) fits.map;
+        own = map_on same hash scene n id place fits.slot fixed.batch_size None leaves v.own (all_last same hash scene n id place fits.slot fixed.batch_size None leaves stand v.own) fits.own;
         only = subst (λ (x : Option (Map S)). LooksAside v.under x (call_after came.machine came.progress)) (sym knows)
             (only_then came.progress (step_writes same (hash map.hasher) scene.world.memory m2 came.machine came.progress machine its_steps));
         held = held_then;
@@ -423,7 +429,7 @@ module _ {K V S : Type 0} (same : K → K → Bool) (hash : S → K → ℕ) (fi
         alone = same_slot same hash fixed s h id v w at_id refl;
         under = λ x at. ap (λ (y : View K V S). y.under) (same_some v x (sym at_id ∙ at));
         knows = same_maps same hash fixed s h id v w at_id refl refl refl;
-        gone = λ m e. absurd (cc e);
+        gone = λ m e. absurd (cc (stand, e));
         leant = inl (refl, λ x at. ap (λ (y : View K V S). y.slot) (same_some v x (sym at_id ∙ at)));
         fresh = (
           so.fresh.0,

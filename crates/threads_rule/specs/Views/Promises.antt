@@ -1,5 +1,5 @@
 -- What is promised of the rule of maps.
-use Rattle.std.specs.Prelude.{◌≡◌, ℕ, Bool, Some, ◌+◌, ◌<◌, ◌≤◌, ◌^◌, max, None}
+use Rattle.std.specs.Prelude.{◌≡◌, ◌⊎◌, ℕ, Bool, Some, ◌+◌, ◌<◌, ◌≤◌, ◌^◌, max, None}
 use Rattle.seize_words.specs.OneMemory.Op.{Op}
 use Rattle.seize_words.specs.OneMemory.Plan.{Then, Turn}
 use Rattle.std.specs.Int.{IsPowerOfTwo}
