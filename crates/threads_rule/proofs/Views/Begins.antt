@@ -34,7 +34,7 @@ use Rattle.threads_rule.specs.declared.view.SeatWork.TheVariants.{Nothing, Calls
 use Rattle.threads_rule.proofs.Views.Knows.{knows_within}
 use Rattle.threads_rule.proofs.Views.Leaves.{Leaves, leaves_all, none_ends, own_section, section_place, section_inside, own_idle, map_on, all_last, call_here}
 use Rattle.threads_rule.proofs.Views.Listed.{is_its, is_other, numbered_on}
-use Rattle.threads_rule.proofs.Views.Moved.{scene_of, all_stand, are_so, Moved, Adds, same_maps, same_slot, moved}
+use Rattle.threads_rule.proofs.Views.Moved.{scene_of, all_stand, are_so, Moved, Adds, knows_alike, same_slot, moved}
 use Rattle.threads_rule.proofs.Views.Numbers.{slot_at}
 use Rattle.threads_rule.proofs.Views.Writers.{asked_writes, few_writers, looks_aside_on, replied_writes}
 use Rattle.many_acts.proofs.Given.CallersTogether.Few.{few_with_any}
@@ -148,7 +148,7 @@ module _ {K V S : Type 0} (same : K → K → Bool) (hash : S → K → ℕ) (fi
       theirs = λ j t a b x ne at uses e. cc e;
       alone = same_slot same hash fixed s h id v (w runs) at_id refl;
       under = λ x at. ap (λ (y : View K V S). y.under) (same_some v x (sym at_id ∙ at));
-      knows = same_maps same hash fixed s h id v (w runs) at_id refl refl refl;
+      knows = knows_alike same hash fixed s h id v (w runs) at_id refl refl refl;
       gone = λ m e. absurd (cc (stand, e));
       leant = inl (refl, λ x at. ap (λ (y : View K V S). y.slot) (same_some v x (sym at_id ∙ at)));
       fresh = ((are_so same hash fixed s h).fresh.0, (are_so same hash fixed s h).fresh.1, numbered);

@@ -54,7 +54,7 @@ use Rattle.threads_rule.proofs.Views.Leaves.{Leaves, own_idle, map_on, all_last}
 use Rattle.threads_rule.proofs.Views.Looked.{Made, may_op}
 use Rattle.threads_rule.proofs.Views.Made.{making_keeps}
 use Rattle.threads_rule.proofs.Views.Listed.{numbered_on}
-use Rattle.threads_rule.proofs.Views.Moved.{scene_of, all_stand, are_so, KnowsThen, Moved, same_maps, same_slot, moved}
+use Rattle.threads_rule.proofs.Views.Moved.{scene_of, all_stand, are_so, KnowsThen, Moved, knows_alike, same_slot, moved}
 use Rattle.threads_rule.proofs.Views.Ran.{Ran, ran_stays, ran_keeps, ran_passes}
 use Rattle.threads_rule.proofs.Views.Sections.{as_users}
 use Rattle.many_acts.proofs.Given.CallersTogether.Slots.{alike_same}
@@ -163,7 +163,7 @@ module _ {K V S : Type 0} (same : K → K → Bool) (hash : S → K → ℕ) (fi
       theirs = λ j t a b x ne at uses e. cc e;
       alone = same_slot same hash fixed s h id v w at_id refl;
       under = λ x at. ap (λ (y : View K V S). y.under) (same_some v x (sym at_id ∙ at));
-      knows = same_maps same hash fixed s h id v w at_id refl refl refl;
+      knows = knows_alike same hash fixed s h id v w at_id refl refl refl;
       gone = λ a e. absurd (cc (stand, e));
       leant = inl (refl, λ x at. ap (λ (y : View K V S). y.slot) (same_some v x (sym at_id ∙ at)));
       fresh = (
@@ -358,96 +358,94 @@ module _ {K V S : Type 0} (same : K → K → Bool) (hash : S → K → ℕ) (fi
           let less = so.fresh.1.1 i d led.1 in at_other scene.maps d.map (Some it) a (λ e. absurd (omega (arith, less, above, e))) ∙ so.fresh.1.0 a above
 
       -- a map more stands: it is the maker's own, or stands for good
-      done : (so_told : View K V S → Type 0) (setting : Setting) (it : Standing K) → stage ≡ record { world = w2; maps = with_at scene.maps d.map (Some it); calls = scene.calls; makers = with_at scene.makers i None; enders = scene.enders }
-          → it.setting ≡ setting → it.hash ≡ d.hash → (own : Bool) (before : Option (Map S)) → v.own ≡ before → so_told (with_made v own before record { number = m; setting = setting; hasher = hasher } made.looks)
-          → Goes (Holds same hash fixed) KeepsFor s m2 id so_told
-      done so_told setting it came its_setting hash_is = by_own
-        where
-          abbrev map : Map S
-          map = record { number = m; setting = setting; hasher = hasher }
+      module _ (so_told : View K V S → Type 0) (setting : Setting) (it : Standing K)
+          (came : stage ≡ record { world = w2; maps = with_at scene.maps d.map (Some it); calls = scene.calls; makers = with_at scene.makers i None; enders = scene.enders })
+          (its_setting : it.setting ≡ setting) (hash_is : it.hash ≡ d.hash) where
+        abbrev map : Map S
+        map = record { number = m; setting = setting; hasher = hasher }
 
-          abbrev maps2 : ℕ → Option (Standing K)
-          maps2 = with_at scene.maps d.map (Some it)
+        abbrev maps2 : ℕ → Option (Standing K)
+        maps2 = with_at scene.maps d.map (Some it)
 
-          more : (a : ℕ) (r : Standing K) → scene.maps a ≡ Some r → (r2 : Standing K) × (maps2 a ≡ Some r2) × (r2.setting ≡ r.setting) × (r2.hash ≡ r.hash)
-          more a r here = stand_more it a r here (cases_eq a d.map)
+        more : (a : ℕ) (r : Standing K) → scene.maps a ≡ Some r → (r2 : Standing K) × (maps2 a ≡ Some r2) × (r2.setting ≡ r.setting) × (r2.hash ≡ r.hash)
+        more a r here = stand_more it a r here (cases_eq a d.map)
 
-          known : KnowsMap same hash (n2 maps2 None more (none_more it) (λ e one. absurd (cc one))) (Some map)
-          known = (it, ap maps2 (sym its_map) ∙ at_same scene.maps d.map (Some it) d.map refl, its_setting, hash_is ∙ its_hash)
+        known : KnowsMap same hash (n2 maps2 None more (none_more it) (λ e one. absurd (cc one))) (Some map)
+        known = (it, ap maps2 (sym its_map) ∙ at_same scene.maps d.map (Some it) d.map refl, its_setting, hash_is ∙ its_hash)
 
-          -- it did not stand
-          new : (a : Map S) → Some map ≡ Some a → scene.maps a.number ≡ None
-          new a e = ap (λ (x : Map S). scene.maps x.number) (sym (same_some map a e)) ∙ ap scene.maps (sym its_map) ∙ all.makings.coming i d led.1
+        -- it did not stand
+        new : (a : Map S) → Some map ≡ Some a → scene.maps a.number ≡ None
+        new a e = ap (λ (x : Map S). scene.maps x.number) (sym (same_some map a e)) ∙ ap scene.maps (sym its_map) ∙ all.makings.coming i d led.1
 
-          abbrev good : View K V S
-          good = record { slot = v.slot; under = v.under; map = Some map; by = None; own = v.own; work = Nothing; looks = made.looks; held = []; began = v.began; calls = v.calls }
+        abbrev good : View K V S
+        good = record { slot = v.slot; under = v.under; map = Some map; by = None; own = v.own; work = Nothing; looks = made.looks; held = []; began = v.began; calls = v.calls }
 
-          for_good : so_told good → Goes (Holds same hash fixed) KeepsFor s m2 id so_told
-          for_good is =
-              goes_by maps2 None more (none_more it) (λ e one. absurd (cc one)) good so_told came refl refl refl (λ other on. cc on) refl
-              (λ y at. subst (λ (z : View K V S). KnowsThen same hash fixed s h id z good) (same_some v y (sym at_id ∙ at)) (record {
-                by = λ n e. absurd (cc e);
-                own = inl refl;
-                map = λ a e. inr (new a e);
-                mine = λ a e. inl e;
-                apart = λ a b e g. inr g;
-              }))
-              (record {
-                slot = fits.slot;
-                aside = fits.aside;
-                does = over maps2 None more (none_more it) (λ e one. absurd (cc one)) refl;
-                map = known;
-                own = own_still maps2 None more (none_more it) (λ e one. absurd (cc one));
-                only = tt;
-                held = tt;
-                pair = tt;
-                idle = its_idle maps2 None more (none_more it) (λ e one. absurd (cc one));
-              })
-              is
+        for_good : so_told good → Goes (Holds same hash fixed) KeepsFor s m2 id so_told
+        for_good is =
+            goes_by maps2 None more (none_more it) (λ e one. absurd (cc one)) good so_told came refl refl refl (λ other on. cc on) refl
+            (λ y at. subst (λ (z : View K V S). KnowsThen same hash fixed s h id z good) (same_some v y (sym at_id ∙ at)) (record {
+              by = λ n e. absurd (cc e);
+              own = inl refl;
+              map = λ a e. inr (new a e);
+              mine = λ a e. inl e;
+              apart = λ a b e g. inr g;
+            }))
+            (record {
+              slot = fits.slot;
+              aside = fits.aside;
+              does = over maps2 None more (none_more it) (λ e one. absurd (cc one)) refl;
+              map = known;
+              own = own_still maps2 None more (none_more it) (λ e one. absurd (cc one));
+              only = tt;
+              held = tt;
+              pair = tt;
+              idle = its_idle maps2 None more (none_more it) (λ e one. absurd (cc one));
+            })
+            is
 
-          abbrev founded : View K V S
-          founded = record { slot = v.slot; under = v.under; map = v.map; by = v.by; own = Some map; work = Nothing; looks = made.looks; held = []; began = v.began; calls = v.calls }
+        abbrev founded : View K V S
+        founded = record { slot = v.slot; under = v.under; map = v.map; by = v.by; own = Some map; work = Nothing; looks = made.looks; held = []; began = v.began; calls = v.calls }
 
-          -- who leaned on it leaned on the owner of a map
-          nobody : v.own ≡ None → (j : ℕ) (y : View K V S) → view_of s j ≡ Some y → y.by ≡ Some id → ⊥
-          nobody none j y at e = no_owner y.map (so.owned j id y at e)
-            where
-              no_owner : (o : Option (Map S)) → IsOwner (view_of s) id o → ⊥
-              no_owner None base = base
-              no_owner (Some a) base =
-                  let its = ap (λ (x : View K V S). x.own) (same_some v base.0 (sym at_id ∙ base.1)) in let owns = base.2 in cc (none, its, owns)
+        -- who leaned on it leaned on the owner of a map
+        nobody : v.own ≡ None → (j : ℕ) (y : View K V S) → view_of s j ≡ Some y → y.by ≡ Some id → ⊥
+        nobody none j y at e = no_owner y.map (so.owned j id y at e)
+          where
+            no_owner : (o : Option (Map S)) → IsOwner (view_of s) id o → ⊥
+            no_owner None base = base
+            no_owner (Some a) base =
+                let its = ap (λ (x : View K V S). x.own) (same_some v base.0 (sym at_id ∙ base.1)) in let owns = base.2 in cc (none, its, owns)
 
-          by_own : (own : Bool) (before : Option (Map S)) → v.own ≡ before → so_told (with_made v own before map made.looks) → Goes (Holds same hash fixed) KeepsFor s m2 id so_told
-          by_own false before e is = for_good is
-          by_own true (Some other) e is = for_good is
-          by_own true None e is =
-              goes_by maps2 None more (none_more it) (λ e one. absurd (cc one)) founded so_told came refl refl refl (λ other on. cc on) refl
-              (λ y at. subst (λ (z : View K V S). KnowsThen same hash fixed s h id z founded) (same_some v y (sym at_id ∙ at)) (record {
-                by = λ n e. (e, refl);
-                own = inr (nobody e);
-                map = λ a e. inl (e, refl);
-                mine = λ a e. inr (new a e);
-                apart = λ a b e g. inl e;
-              }))
-              (record {
-                slot = fits.slot;
-                aside = fits.aside;
-                does = over maps2 None more (none_more it) (λ e one. absurd (cc one)) refl;
-                map = map_still maps2 None more (none_more it) (λ e one. absurd (cc one));
-                own = known;
-                only = tt;
-                held = tt;
-                pair = tt;
-                idle = its_idle maps2 None more (none_more it) (λ e one. absurd (cc one));
-              })
-              is
+        done : (own : Bool) (before : Option (Map S)) → v.own ≡ before → so_told (with_made v own before map made.looks) → Goes (Holds same hash fixed) KeepsFor s m2 id so_told
+        done false before e is = for_good is
+        done true (Some other) e is = for_good is
+        done true None e is =
+            goes_by maps2 None more (none_more it) (λ e one. absurd (cc one)) founded so_told came refl refl refl (λ other on. cc on) refl
+            (λ y at. subst (λ (z : View K V S). KnowsThen same hash fixed s h id z founded) (same_some v y (sym at_id ∙ at)) (record {
+              by = λ n e. (e, refl);
+              own = inr (nobody e);
+              map = λ a e. inl (e, refl);
+              mine = λ a e. inr (new a e);
+              apart = λ a b e g. inl e;
+            }))
+            (record {
+              slot = fits.slot;
+              aside = fits.aside;
+              does = over maps2 None more (none_more it) (λ e one. absurd (cc one)) refl;
+              map = map_still maps2 None more (none_more it) (λ e one. absurd (cc one));
+              own = known;
+              only = tt;
+              held = tt;
+              pair = tt;
+              idle = its_idle maps2 None more (none_more it) (λ e one. absurd (cc one));
+            })
+            is
 
       by : (so_told : View K V S → Type 0) (end : Advance Setting) → so_told (made_after v mine m hasher made.looks led.3 end) → MakingCame same hash fixed.batch_size fixed.roots slot_of scene i d w2 led.3 stage end
           → Goes (Holds same hash fixed) KeepsFor s m2 id so_told
       by so_told progress.Goes is came =
           let next = record d { machine = led.3 } in
           goes_by scene.maps (Some next) stand_on so.fresh.1.0 (λ e one. ap (λ (x : Beginning K). x.map) (sym (same_some next e one))) (made_after v mine m hasher made.looks led.3 progress.Goes) so_told came refl refl refl (λ other on. cc on) refl
-          (same_maps same hash fixed s h id v (made_after v mine m hasher made.looks led.3 progress.Goes) at_id refl refl refl)
+          (knows_alike same hash fixed s h id v (made_after v mine m hasher made.looks led.3 progress.Goes) at_id refl refl refl)
           (record {
             slot = fits.slot;
             aside = fits.aside;
@@ -463,7 +461,7 @@ module _ {K V S : Type 0} (same : K → K → Bool) (hash : S → K → ℕ) (fi
       by so_told progress.Waits is came = absurd came
       by so_told (progress.Refused fault) is came =
           goes_by scene.maps None stand_on so.fresh.1.0 (λ e one. absurd (cc one)) (made_after v mine m hasher made.looks led.3 (progress.Refused fault)) so_told came refl refl refl (λ other on. cc on) refl
-          (same_maps same hash fixed s h id v (made_after v mine m hasher made.looks led.3 (progress.Refused fault)) at_id refl refl refl)
+          (knows_alike same hash fixed s h id v (made_after v mine m hasher made.looks led.3 (progress.Refused fault)) at_id refl refl refl)
           (record {
             slot = fits.slot;
             aside = fits.aside;

@@ -52,8 +52,8 @@ module _ {K V S : Type 0} (same : K → K → Bool) (hash : S → K → ℕ) (fi
     pub apart : (a b : Map S) → w.map ≡ Some a → w.own ≡ Some b → (x.map ≡ Some a) ⊎ (x.own ≡ Some b)
 
   -- it knows what it knew
-  pub same_maps : (id : ℕ) (v w : View K V S) → view_of s id ≡ Some v → w.map ≡ v.map → w.by ≡ v.by → w.own ≡ v.own → (x : View K V S) → view_of s id ≡ Some x → KnowsThen id x w
-  same_maps id v w at_id map by own x at = subst (λ (y : View K V S). KnowsThen id y w) (same_some v x (sym at_id ∙ at)) (record {
+  pub knows_alike : (id : ℕ) (v w : View K V S) → view_of s id ≡ Some v → w.map ≡ v.map → w.by ≡ v.by → w.own ≡ v.own → (x : View K V S) → view_of s id ≡ Some x → KnowsThen id x w
+  knows_alike id v w at_id map by own x at = subst (λ (y : View K V S). KnowsThen id y w) (same_some v x (sym at_id ∙ at)) (record {
     by = λ n e. (sym by ∙ e, map);
     own = inl own;
     map = λ a e. inl (sym map ∙ e, by);

@@ -30,7 +30,7 @@ use Rattle.threads_rule.specs.declared.view.SeatWork.{SeatWork}
 use Rattle.threads_rule.specs.declared.view.SeatWork.TheVariants.{Nothing, Calls, Makes, Ends}
 use Rattle.threads_rule.proofs.Views.Knows.{row_of_it}
 use Rattle.threads_rule.proofs.Views.Leaves.{Leaves, own_slot, own_section, alike_vacant, map_on, all_last, own_idle}
-use Rattle.threads_rule.proofs.Views.Moved.{scene_of, all_stand, are_so, Moved, same_maps}
+use Rattle.threads_rule.proofs.Views.Moved.{scene_of, all_stand, are_so, Moved, knows_alike}
 use Rattle.seize_words.proofs.General.{same_some}
 
 -- the place is that of the slot that is held
@@ -188,7 +188,7 @@ module _ {K V S : Type 0} (same : K → K → Bool) (hash : S → K → ℕ) (fi
           theirs = λ j t a b x ne at uses mine. ne (so.apart j id t a b x v at at_id uses mine);
           alone = alone;
           under = λ x at. sym own ∙ ap (λ (y : View K V S). y.under) (same_some v x (sym at_id ∙ at));
-          knows = same_maps same hash fixed s h id v w at_id refl refl refl;
+          knows = knows_alike same hash fixed s h id v w at_id refl refl refl;
           gone = λ m e. absurd (cc (stand, e));
           leant = inr unlent;
           fresh = (so.fresh.0, fresh_on, numbered);

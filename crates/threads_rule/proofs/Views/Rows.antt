@@ -70,18 +70,20 @@ module _ {K V S : Type 0} (same : K → K → Bool) (hash : S → K → ℕ) (fi
     had k x at (inl e) =
         let one = same_some w x (sym (here k e) ∙ at) in
         let f = h.so.seats id v at_id in
-        let g : Fits same hash s.world.scene id w = record { slot = f.slot; does = f.does; aside = f.aside; map = f.map; only = f.only; held = tt; pair = f.pair; idle = f.idle } in
+        let g : Fits same hash s.world.scene id w = record { slot = f.slot; does = f.does; aside = f.aside; map = f.map; own = f.own; only = f.only; held = tt; pair = f.pair; idle = f.idle } in
         record {
           knew = v;
           at = ap (view_of s) e ∙ at_id;
           slot = ap (λ (y : View K V S). y.slot) (sym one);
           under = inl (ap (λ (y : View K V S). y.under) (sym one));
+          own = ap (λ (y : View K V S). y.own) (sym one);
+          known = inl (ap (λ (y : View K V S). y.map) (sym one), ap (λ (y : View K V S). y.by) (sym one));
           calls = ap (λ (y : View K V S). y.calls) (sym one);
           work = ap (λ (y : View K V S). y.work) (sym one);
           held = λ b y shown. (let none : shown_in w.held b ≡ Some y = ap (λ (z : View K V S). shown_in z.held b) one ∙ shown in absurd (cc none));
           fits = subst (λ (y : View K V S). Fits same hash s.world.scene k y) one (subst (λ (a : ℕ). Fits same hash s.world.scene a w) (sym e) g);
         }
-    had k x at (inr ne) = let was = sym (elsewhere s.views id k w ne) ∙ at in record { knew = x; at = was; slot = refl; under = inl refl; calls = refl; work = refl; held = λ b y shown. shown; fits = h.so.seats k x was }
+    had k x at (inr ne) = let was = sym (elsewhere s.views id k w ne) ∙ at in record { knew = x; at = was; slot = refl; under = inl refl; own = refl; known = inl (refl, refl); calls = refl; work = refl; held = λ b y shown. shown; fits = h.so.seats k x was }
 
     unborn : (k : ℕ) → slice_get views k ≡ None → (k ≡ id) ⊎ (k ≢ id) → view_of s k ≡ None
     unborn k at (inl e) = let f = here k e in absurd (cc (f, at))

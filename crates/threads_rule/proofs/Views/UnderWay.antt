@@ -62,7 +62,7 @@ use Rattle.threads_rule.proofs.Views.Answered.{answered_there}
 use Rattle.threads_rule.proofs.Views.Leaves.{Leaves, section_place, section_on, call_here, own_idle, map_on, all_last}
 use Rattle.threads_rule.proofs.Views.Held.{value_of}
 use Rattle.threads_rule.proofs.Views.Listed.{is_its, is_other, newest_on, newest_runs, numbered_on}
-use Rattle.threads_rule.proofs.Views.Moved.{scene_of, all_stand, are_so, Moved, Adds, same_maps, same_slot, moved}
+use Rattle.threads_rule.proofs.Views.Moved.{scene_of, all_stand, are_so, Moved, Adds, knows_alike, same_slot, moved}
 use Rattle.threads_rule.proofs.Views.Next.{after, step_leaves, none_ends, step_held, step_fresh, own_does}
 use Rattle.threads_rule.proofs.Views.Looked.{AllKnown, AllLooked, IsSo}
 use Rattle.threads_rule.proofs.Views.Naming.{IsThere, Known, none_more, of_these, one_more, with_told}
@@ -428,7 +428,7 @@ module _ {K V S : Type 0} (same : K → K → Bool) (hash : S → K → ℕ) (fi
         theirs = λ j t a b x ne at uses e. cc e;
         alone = same_slot same hash fixed s h id v w at_id refl;
         under = λ x at. ap (λ (y : View K V S). y.under) (same_some v x (sym at_id ∙ at));
-        knows = same_maps same hash fixed s h id v w at_id refl refl refl;
+        knows = knows_alike same hash fixed s h id v w at_id refl refl refl;
         gone = λ m e. absurd (cc (stand, e));
         leant = inl (refl, λ x at. ap (λ (y : View K V S). y.slot) (same_some v x (sym at_id ∙ at)));
         fresh = (
