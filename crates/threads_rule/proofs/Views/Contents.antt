@@ -1,6 +1,6 @@
 -- The rule of maps is a content.
 use Rattle.std.specs.Prelude.{List, Option, Some, None}
-use Rattle.std.proofs.Common.{◌≡◌, ℕ, Bool, refl, sym, subst, ap, ◌∙◌}
+use Rattle.std.proofs.Common.{◌≡◌, ℕ, Bool, ◌⊎◌, inl, inr, refl, sym, subst, ap, ◌∙◌}
 use Rattle.seize_words.specs.OneMemory.Op.{Op, Out}
 use Rattle.seize.specs.declared.rows.settle.Settle.{Settle}
 use Rattle.map_tables.specs.Nodes.{deferred_word}

@@ -18,6 +18,11 @@ abbrev pub busy : {T : Type 0} → SlotView T → SlotView T
 busy (Inside t has) = Busy (Some t)
 busy slot = Busy None
 
+-- nor does one rest that leans on the owner of a map
+abbrev pub knows_by : {T : Type 0} → Option ℕ → SlotView T → SlotView T
+knows_by None slot = slot
+knows_by (Some owner) slot = busy slot
+
 module _ {K V S : Type 0} where
   abbrev pub row_known : Option (ℕ × ℕ) → SlotView (Node K V) → SeatWork K V S → SlotView (Node K V)
   row_known (Some leant) slot work = Busy None
@@ -25,11 +30,6 @@ module _ {K V S : Type 0} where
   row_known None slot (Calls machine) = busy slot
   row_known None slot (Makes own m hasher opening) = Busy None
   row_known None slot (Ends machine) = Busy None
-
-  -- nor does one rest that leans on the owner of a map
-  abbrev pub knows_by : Option ℕ → SlotView (Node K V) → SlotView (Node K V)
-  knows_by None slot = slot
-  knows_by (Some owner) slot = busy slot
 
   -- nothing is done at a root, and nobody watches a section
   abbrev pub notes_of : View K V S → Noted (Node K V)
