@@ -32,6 +32,7 @@ pub mod Leanings
 pub mod Loans
 pub mod Keeping
 pub mod Makings
+mod Taking
 pub mod Endings
 pub mod RowFits
 pub mod RowSteps

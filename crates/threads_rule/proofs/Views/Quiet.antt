@@ -77,7 +77,10 @@ module _ {T : Type 0} (defers : T → Option ℕ) (size : ℕ) where
     apart : (b c : ℕ) → eqb b c ≡ false → b ≡ c → ⊥
     apart b c other e = cc (other, subst (λ (d : ℕ). eqb b d ≡ true) e (eq-eqb b b refl))
 
-    there : (b : ℕ) → holds t b w.log ≡ true → IsSome (value_at w.memory b)
+    pub held_is_linked : (b : ℕ) → holds t b w.log ≡ true → (k : ℕ) → w.hand b ≡ Making k → ⊥
+    held_is_linked b held k is = let other = not_making b held b (k, is) in let one = eq-eqb b b refl in cc (other, one)
+
+    pub there : (b : ℕ) → holds t b w.log ≡ true → IsSome (value_at w.memory b)
     there b held = kept_there defers size w r b (IsHeld t held)
 
     made_stays : (i : ℕ) (m : Mem T) (out : Out T) → ((b : ℕ) → holds t b w.log ≡ true → value_at m b ≡ value_at w.memory b) → Stayed w (made_by defers w i m out) t

@@ -86,6 +86,17 @@ module _ {T : Type 0} (defers : T → Option ℕ) (size : ℕ) where
       let next = alone_on c w h.0 (λ k. event_row defers size k e w h.0 (user_of_others k e is.0) h.1) alone in
       (h.0, user_of_others c e is.0, h.1, next, users_pass events h.0 v is.1 h.2 c next)
 
+  -- nor is anybody else's row touched by these events
+  abbrev pub AreNoRows : List (Event T) → Type 0
+  AreNoRows [] = Unit {0}
+  AreNoRows (e ∷ events) = ((j : ℕ) → IsOfOthers j e) × AreNoRows events
+
+  pub no_rows_pass : (events : List (Event T)) (w v : World T) → AreNoRows events → Runs defers size events w v → (c : ℕ) → IsAloneOnSlot c w
+      → Meanwhile defers (IsAloneOnSlot c) size c events w v
+  no_rows_pass [] w v is h c alone = h
+  no_rows_pass (e ∷ events) w v is h c alone =
+      let next = alone_on c w h.0 (λ k. event_row defers size k e w h.0 (is.0 k) h.1) alone in (h.0, is.0 c, h.1, next, no_rows_pass events h.0 v is.1 h.2 c next)
+
   -- a row that retires a block settles on its slot after its first step, too
   module _ (i s b : ℕ) (w v : World T) (r : Reached defers size w) where
     first_step : (c : Settle) → c ≡ retiring s size (link_to b) → w.row i ≡ Settles c → Steps' defers i (Settles c) w v → SettlesOn s (v.row i)

@@ -33,7 +33,7 @@ module _ {K V S : Type 0} (same : K → K → Bool) (hash : S → K → ℕ) whe
       → observed_by same hash v map work op out w → IsQuiescent (knows_by by (row_known under v.slot work)) → SeatIsQuiescent w
   by_work v op out w None None own lone map Nothing (slot, tells, is) rests =
       subst SeatIsQuiescent (sym is)
-      (subst (λ (o : Option ℕ). IsQuiescent (knows_by o (row_known v.under slot Nothing))) (sym lone)
+      (subst (λ (o : Option ℕ). IsQuiescent (knows_by o (row_known {S = S} v.under slot Nothing))) (sym lone)
       (subst (λ (u : Option (ℕ × ℕ)). IsQuiescent (row_known {S = S} u slot Nothing)) (sym own)
       (row_stays deferred_word (noted v.slot NoneYet v.began 0) op out (noted slot (deed v.slot NoneYet op out) v.began 0) (tells, refl, refl, refl) rests)))
   by_work v op out w None None own lone map (Calls machine) is rests = absurd (busy_not v.slot rests)
