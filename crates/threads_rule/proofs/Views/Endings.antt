@@ -229,8 +229,8 @@ module _ {K V S : Type 0} (same : K → K → Bool) (hash : S → K → ℕ) (fi
 -- what an end does is nobody's row
 deeds_no_rows : {T : Type 0} (defers : T → Option ℕ) (size i : ℕ) (deed : Deed) → AreNoRows defers size (events_of i deed)
 deeds_no_rows defers size i Looks = tt
-deeds_no_rows defers size i (TakesPair b) = ((λ j. tt), (λ j. tt), (λ j. tt), tt)
-deeds_no_rows defers size i (LeavesTable b further) = ((λ j. tt), (λ j. tt), tt)
+deeds_no_rows defers size i (TakesPair b) = ((λ j. tt), ((λ j. tt), ((λ j. tt), tt)))
+deeds_no_rows defers size i (LeavesTable b further) = ((λ j. tt), ((λ j. tt), tt))
 deeds_no_rows defers size i (JoinsPair b word) = ((λ j. tt), tt)
 deeds_no_rows defers size i (TakesLeft b) = ((λ j. tt), tt)
 deeds_no_rows defers size i (TakesCounter b) = ((λ j. tt), tt)
@@ -413,7 +413,7 @@ module _ {K V S : Type 0} (same : K → K → Bool) (hash : S → K → ℕ) (fi
         })
         is
 
-    by : (so_told : View K V S → Type 0) (end : Settled (Node K V)) → so_told (ended_after v made.looks step_led.3 end) → EndingCame scene_now me d did.w2 did.deed step_led.3 stage end
+    by : (so_told : View K V S → Type 0) (end : Settled (Node K V)) → so_told (ended_after v made.looks step_led.3 end) → EndingCame same hash fixed.batch_size fixed.roots slot_of scene_now me d did.w2 did.deed step_led.3 stage end
         → Goes (Holds same hash fixed) KeepsFor s m2 id so_told
     by so_told settled.Goes is came = goes_on so_told _ refl came.1 is
     by so_told settled.Waits is came = absurd came

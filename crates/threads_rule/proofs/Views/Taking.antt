@@ -62,9 +62,9 @@ module _ {K V S : Type 0} (same : K → K → Bool) (hash : S → K → ℕ) (ba
   counter_first v e past back at.Nexts (t, its, is) = before back _ is (some_last Counter _ _ (later d.chart.first))
   counter_first v e past back at.Carries (its, joined, is) = before back _ is (later past)
   counter_first v e past back (at.Joins pair) (t, its, at_past, j) = before back _ j.all (behind Counter (d.blocks.table t) _ (later (suc t)))
-  counter_first v e past back (at.Follows pair) (t, its, at_past, inl (q, rest, link, g)) = before back _ g.all (some_last Counter _ _ (behind Counter (d.blocks.table t) _ (later (suc t))))
+  counter_first v e past back (at.Follows pair) (t, its, at_past, inl (q, rest, link, g)) = before back _ g.all (some_last Counter (q ∷ rest) (d.blocks.table t ∷ from_table d.setting d.chart d.blocks lists false (suc t)) (behind Counter (d.blocks.table t) (from_table d.setting d.chart d.blocks lists false (suc t)) (later (suc t))))
   counter_first v e past back (at.Follows pair) (t, its, at_past, inr j) = before back _ j.all (behind Counter (d.blocks.table t) _ (later (suc t)))
-  counter_first v e past back (at.Gives pair next) (t, its, at_past, q, rest, link, g, there) = before back _ g.all (some_last Counter _ _ (behind Counter (d.blocks.table t) _ (later (suc t))))
+  counter_first v e past back (at.Gives pair next) (t, its, at_past, q, rest, link, g, there) = before back _ g.all (some_last Counter (q ∷ rest) (d.blocks.table t ∷ from_table d.setting d.chart d.blocks lists false (suc t)) (behind Counter (d.blocks.table t) (from_table d.setting d.chart d.blocks lists false (suc t)) (later (suc t))))
   counter_first v e past back at.Afters (t, its, at_past, joined, is) = before back _ is (behind Counter (d.blocks.table t) _ (later past))
   counter_first v e past back (at.Drops next) (t, its, at_past, link, joined, is) = before back _ is (behind Counter (d.blocks.table t) _ (later past))
   counter_first v e past back at.Shards (at_past, joined, is) = before back _ is (some_here Counter [])
@@ -99,7 +99,7 @@ module _ {K V S : Type 0} (same : K → K → Bool) (hash : S → K → ℕ) (ba
   starts v e past back at.Over point = absurd point
 
   count_here : (x : ℕ) (a b : List ℕ) → times x (a ++ b) ≡ times x a + times x b
-  count_here x [] b = refl
+  count_here x [] b = let n = times x b in omega arith
   count_here x (y ∷ a) b = let k = count_here x a b in let n = times x (a ++ b) in let p = times x a in let q = times x b in let u = if x == y then 1 else 0 in omega (arith, k)
 
   -- so it has the counter still, where it reclaims one more
