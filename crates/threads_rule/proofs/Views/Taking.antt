@@ -100,7 +100,7 @@ module _ {K V S : Type 0} (same : K → K → Bool) (hash : S → K → ℕ) (ba
 
   count_here : (x : ℕ) (a b : List ℕ) → times x (a ++ b) ≡ times x a + times x b
   count_here x [] b = let n = times x b in omega arith
-  count_here x (y ∷ a) b = let k = count_here x a b in let n = times x (a ++ b) in let p = times x a in let q = times x b in let u = if x == y then 1 else 0 in omega (arith, k)
+  count_here x (y ∷ a) b = let k = count_here x a b in let n = times x (a ++ b) in let p = times x a in let q = times x b in let u : ℕ = if x == y then 1 else 0 in omega (arith, k)
 
   -- so it has the counter still, where it reclaims one more
   still_counter : (c : ℕ) (v : World (Node K V)) (e : EndMap) (past : ℕ) → Points v e past (d.back ++ c ∷ []) e.stands → HasCounter d
