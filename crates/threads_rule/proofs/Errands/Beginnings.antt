@@ -1,6 +1,6 @@
 -- The turns of a seat of maps, and the lookup that has begun.
 use Rattle.std.specs.Prelude.{max, Result, Ok, Err, IfErr, Option, None}
-use Rattle.std.proofs.Common.{false, ◌≡◌, ℕ, ◌≤◌, ◌^◌, Bool, Some, ◌⊎◌, inl, refl, sym, subst, ap, ◌∙◌, arith}
+use Rattle.std.proofs.Common.{false, ◌≡◌, ℕ, ◌≤◌, ◌^◌, Bool, Some, ◌⊎◌, inl, inr, refl, sym, subst, ap, ◌∙◌, arith}
 use Rattle.seize_seats.specs.Seats.State.{Turns}
 use Rattle.seize_words.specs.declared.fault.Fault.{Fault}
 use Rattle.map_tables.specs.Lengths.{IsTableLen}

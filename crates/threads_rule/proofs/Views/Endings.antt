@@ -1,13 +1,13 @@
 -- The seat that owns a map begins to end it, where nobody leans on it; and an end goes on.
-use Rattle.std.specs.Prelude.{◌≢◌, ◌++◌, ◌∷◌, Option, Some, None}
+use Rattle.std.specs.Prelude.{◌≢◌, ◌∷◌, Option, Some, None}
 use Rattle.std.specs.Option.{is_none}
 use Rattle.std.proofs.Common.{◌≡◌, ℕ, ◌≤◌, Bool, true, false, List, [], ◌⊎◌, inl, inr, refl, sym, subst, ap, ◌∙◌}
 use Rattle.std.proofs.lemmas.Bool.{cases_eq}
 use Rattle.seize_words.specs.OneMemory.Mem.{Mem, Can, Took, value_at}
 use Rattle.seize_words.specs.OneMemory.Op.{Op, Out}
 use Rattle.seize_words.specs.OneMemory.Plan.{Steps, May}
-use Rattle.seize.specs.Law.{Ended, holds, owner_of}
-use Rattle.seize.specs.World.{World, Row, Use, Rests, Ends as EndsOwner, with_at, with_effect}
+use Rattle.seize.specs.Law.{holds, owner_of}
+use Rattle.seize.specs.World.{World, Row, Use, Rests, Ends as EndsOwner, with_at}
 use Rattle.seize.specs.declared.rows.settle.Settled.{Settled}
 use Rattle.seize.specs.declared.rows.settle.Settled.TheVariants as settled
 use Rattle.map_tables.specs.Nodes.{deferred_word}

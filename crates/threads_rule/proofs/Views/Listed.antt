@@ -1,17 +1,15 @@
 -- What a list of acts tells, with one act more.
-use Rattle.std.specs.Prelude.{◌≢◌, ◌==◌, ◌++◌, length, suc, Option, Some, if◌then◌else◌}
+use Rattle.std.specs.Prelude.{◌≢◌, ◌==◌, ◌++◌, length, suc, Option, if◌then◌else◌}
 use Rattle.std.proofs.Common.{◌≡◌, ℕ, ◌+◌, Bool, List, [], ◌∷◌, refl, sym, subst, ap, ◌∙◌, arith}
 use Rattle.std.proofs.lemmas.Bool.{eq-eqb, ne_eqb}
 use Rattle.seize_words.specs.OneMemory.Mem.{Mem}
 use Rattle.map_tables.specs.declared.node.Node.{Node}
 use Rattle.papaya_raw.specs.declared.machines.progress.Progress.{Progress}
-use Rattle.many_acts.specs.Given.FinishesMaps.{Standing}
-use Rattle.many_acts.specs.Given.ScenesScene.{Scene}
 use Rattle.many_acts.specs.Acts.Acts.{Answer, BeginsCall, StepsCall, TellsCall, AsksCall, StopsCall, BeginsMaking, StepsMaking, BeginsEnding, StepsEnding, BeginsRow, StepsRow}
 use Rattle.many_acts.specs.Acts.Doings.{Doing, Does, BeginsReclaiming, BeginsClearing, StepsReclaiming, Chooses, MayDo}
 use Rattle.many_acts.specs.Acts.Lists.{Course, Reached, LedOn, LedTo, nothing_done, on_by}
 use Rattle.threads_rule.specs.Views.Listed.{Called, calls_then, calls_of, has_progressed, seen_then, seen_of, AreNumbered, IsNewest, seat_of}
-use Rattle.threads_rule.specs.Views.Rule.{IsSlot, IsRun, AreRuns, caller_at}
+use Rattle.threads_rule.specs.Views.Rule.{IsSlot, AreRuns, caller_at}
 use Rattle.threads_rule.specs.Views.Told.{newest_progress}
 use Rattle.threads_rule.specs.declared.view.BegunCall.{BegunCall}
 use Rattle.seize_words.proofs.General.{nothing_and as none_before}

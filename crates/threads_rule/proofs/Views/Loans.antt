@@ -7,7 +7,6 @@ use Rattle.many_acts.specs.Given.ScenesScene.{Scene}
 use Rattle.seize_seats.specs.Seats.State.{State, view_of, Goes}
 use Rattle.seize_views.specs.declared.view.Fixed.{Fixed}
 use Rattle.seize_views.proofs.Views.Lists.{there, elsewhere}
-use Rattle.threads_rule.specs.Views.Begun.{lent_map, returned_map}
 use Rattle.threads_rule.specs.Views.Looks.{shown_in}
 use Rattle.threads_rule.specs.Views.Promises.{LoansBegin, LoansEnd}
 use Rattle.threads_rule.specs.Views.Rule.{MapsWorld, DoesSo, KnowsMap, KnowsPair, LooksAside, IsOwner, Fits, Holds, KeepsFor, caller_at, acts_in}

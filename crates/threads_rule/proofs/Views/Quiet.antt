@@ -14,7 +14,6 @@ use Rattle.seize_model.proofs.Given.SeizeMovesState.Held.{held_on, NoneLeft}
 use Rattle.seize_model.proofs.Given.SeizeRulePoints.Aside.{HandFits}
 use Rattle.seize_model.proofs.Given.SeizeRuleRows.Effects.{IsOneStep}
 use Rattle.seize_model.proofs.Given.SeizeRuleWorld.Values.{own_op_value, taken_value, made_value, rewritten_value}
-use Rattle.seize_model.proofs.Ends.Batches.Rows.{made_memory}
 use Rattle.seize_model.proofs.Alone.Histories.Reached.{Reached, happens_reached}
 use Rattle.seize_model.proofs.Alone.Histories.NotTaken.{IsHeld, kept_there, kept_value, still_held, did}
 use Rattle.seize_acts.specs.Acts.Stays.{how_many, is_end_of}
@@ -102,13 +101,19 @@ module _ {T : Type 0} (defers : T → Option ℕ) (size : ℕ) where
     user_stays (Makes i value words) v is h =
         as_it_was w v _ t h.4 (made_stays i h.1 h.0 (λ b held. made_value defers w.memory b value words h.0 h.1 (there b held) h.3))
     user_stays (Drops i c) v is h =
-        as_it_was w v _ t h.4 (refl, λ b held.
-        let other = not_making b held c h.2 in
-        (ap (λ (q : Bool). cond q false (holds t b w.log)) other ∙ held, refl, taken_value defers w.memory b c h.0 h.1 h.3 (apart b c other)))
+        as_it_was w v _ t h.4 (
+          refl,
+          λ b held.
+              let other = not_making b held c h.2 in
+              (ap (λ (q : Bool). cond q false (holds t b w.log)) other ∙ held, refl, taken_value defers w.memory b c h.0 h.1 h.3 (apart b c other)),
+        )
     user_stays (Links i c o) v is h =
-        as_it_was w v _ t h.1 (refl, λ b held.
-        let other = not_making b held c h.0 in
-        (ap (λ (q : Bool). cond q (is_open t w.log) (holds t b w.log)) other ∙ held, ap (λ (q : Bool). cond q o (owner_of b w.log)) other, refl))
+        as_it_was w v _ t h.1 (
+          refl,
+          λ b held.
+              let other = not_making b held c h.0 in
+              (ap (λ (q : Bool). cond q (is_open t w.log) (holds t b w.log)) other ∙ held, ap (λ (q : Bool). cond q o (owner_of b w.log)) other, refl),
+        )
     user_stays (Parts i c) v is h = as_it_was w v _ t h.1 (refl, λ b held. (held, refl, refl))
     user_stays (Unlinks i c) v is h = as_it_was w v _ t h.1 (refl, λ b held. (held, refl, refl))
     user_stays (Rewrites i c value) v is h =

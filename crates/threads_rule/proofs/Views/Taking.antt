@@ -1,5 +1,5 @@
 -- A step of the end of a map takes away nothing that sections hold of other maps, nor what others have made.
-use Rattle.std.specs.Prelude.{◌≢◌, ◌++◌, ◌<◌, ◌==◌, suc, zero, Option, Some, None, IsSome, if◌then◌else◌}
+use Rattle.std.specs.Prelude.{◌≢◌, ◌++◌, ◌<◌, ◌==◌, suc, zero, Some, IsSome, if◌then◌else◌}
 use Rattle.std.proofs.Common.{◌≡◌, ℕ, ◌+◌, Bool, true, false, List, [], ◌∷◌, ◌⊎◌, inl, inr, refl, sym, subst, ap, arith, ◌∙◌}
 use Rattle.seize_words.specs.OneMemory.Mem.{Mem, Took, value_at}
 use Rattle.seize_words.specs.OneMemory.Plan.{Steps}

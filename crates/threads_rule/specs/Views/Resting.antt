@@ -1,6 +1,6 @@
 -- Who has nothing under way has nothing under way after an operation; and whoever leans on a seat leans on it after one.
 use Rattle.std.specs.Prelude.{◌≡◌, ◌⊎◌, ℕ, Bool, true, false, Option, Some, None}
-use Rattle.std.proofs.Common.{inl, inr, refl, sym, subst, ap, ◌∙◌}
+use Rattle.std.proofs.Common.{inl, inr, refl, sym, subst, ap}
 use Rattle.seize_words.specs.OneMemory.Op.{Op, Out}
 use Rattle.seize.specs.declared.advance.Advance.{Advance as Told}
 use Rattle.seize.specs.declared.advance.Advance.TheVariants as told_as
