@@ -1,6 +1,7 @@
 -- What the first operation of a lookup tells its seat, on a map that has no table; and what the operation of a row does.
 mod Aside
 mod Listed
+mod Owners
 use Rattle.std.specs.Prelude.{ℕ, ◌==◌, Bool, List, [], ◌∷◌, Option, Some, None}
 use Rattle.std.proofs.Common.{inl, inr, refl, subst, ap}
 use Rattle.seize_words.specs.OneMemory.Mem.{Mem}
