@@ -8,7 +8,7 @@ use Rattle.threads_rule.specs.Views.Told.{with_made}
 use Rattle.threads_rule.specs.declared.view.Map.{Map}
 use Rattle.threads_rule.specs.declared.view.View.{View}
 
-module _ {K V S : Type 0} (map other : Map S) where
+module _ (K V : Type 0) {S : Type 0} (map other : Map S) where
   rests_not : SeatIsQuiescent (lent_map {K = K} {V = V} at_rest 7 map) → ⊥
   rests_not rests = rests
 
