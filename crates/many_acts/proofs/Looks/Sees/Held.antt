@@ -8,7 +8,6 @@ use Rattle.run_shows.specs.Given.SeizeWorld.{World}
 use Rattle.run_shows.specs.Given.TablesFinding.{may_name}
 use Rattle.run_shows.specs.Given.SeizeWordsWord.{byte_in}
 use Rattle.run_shows.specs.Given.TablesDeclared.node.Node.{Node}
-use Rattle.run_shows.specs.Given.TablesDeclared.setting.Setting.{Setting}
 use Rattle.run_shows.specs.Given.RuleChart.{Place, Chart}
 use Rattle.run_shows.specs.Given.RuleLinks.{LeadsTo, IsLinkTo}
 use Rattle.run_shows.specs.Given.RuleWords.{Blocks, Represents, place_word, byte_of}
