@@ -42,7 +42,7 @@ use Rattle.threads_rule.specs.Views.Begun.{making}
 use Rattle.threads_rule.specs.Views.Looks.{shown_in}
 use Rattle.threads_rule.specs.Views.Promises.{MakingsBegin, MakingsContinue}
 use Rattle.threads_rule.specs.Views.Listed.{calls_of}
-use Rattle.threads_rule.specs.Views.Rule.{MapsWorld, IsOwner, IsSlot, IsIdle, HasRow, HasMaking, DoesSo, KnowsMap, AreRuns, Fits, AreSo, Holds, KeepsFor, caller_at, acts_in}
+use Rattle.threads_rule.specs.Views.Rule.{MapsWorld, IsSlot, IsIdle, HasRow, HasMaking, DoesSo, KnowsMap, AreRuns, Fits, AreSo, Holds, KeepsFor, caller_at, acts_in}
 use Rattle.threads_rule.specs.Views.Told.{told, observed_by, with_made, made_after}
 use Rattle.threads_rule.specs.declared.view.BegunCall.{BegunCall}
 use Rattle.threads_rule.specs.declared.view.Map.{Map}
@@ -54,7 +54,7 @@ use Rattle.threads_rule.proofs.Views.Leaves.{Leaves, own_idle, map_on, all_last}
 use Rattle.threads_rule.proofs.Views.Looked.{Made, may_op}
 use Rattle.threads_rule.proofs.Views.Made.{making_keeps}
 use Rattle.threads_rule.proofs.Views.Listed.{numbered_on}
-use Rattle.threads_rule.proofs.Views.Moved.{scene_of, all_stand, are_so, KnowsThen, Moved, knows_alike, same_slot, moved}
+use Rattle.threads_rule.proofs.Views.Moved.{scene_of, all_stand, are_so, KnowsThen, Moved, knows_alike, nobody_by, same_slot, moved}
 use Rattle.threads_rule.proofs.Views.Ran.{Ran, ran_stays, ran_keeps, ran_passes}
 use Rattle.threads_rule.proofs.Views.Sections.{as_users}
 use Rattle.many_acts.proofs.Given.CallersTogether.Slots.{alike_same}
@@ -373,7 +373,6 @@ module _ {K V S : Type 0} (same : K → K → Bool) (hash : S → K → ℕ) (fi
         known : KnowsMap same hash (n2 maps2 None more (none_more it) (λ e one. absurd (cc one))) (Some map)
         known = (it, ap maps2 (sym its_map) ∙ at_same scene.maps d.map (Some it) d.map refl, its_setting, hash_is ∙ its_hash)
 
-        -- it did not stand
         new : (a : Map S) → Some map ≡ Some a → scene.maps a.number ≡ None
         new a e = ap (λ (x : Map S). scene.maps x.number) (sym (same_some map a e)) ∙ ap scene.maps (sym its_map) ∙ all.makings.coming i d led.1
 
@@ -406,15 +405,6 @@ module _ {K V S : Type 0} (same : K → K → Bool) (hash : S → K → ℕ) (fi
         abbrev founded : View K V S
         founded = record { slot = v.slot; under = v.under; map = v.map; by = v.by; own = Some map; work = Nothing; looks = made.looks; held = []; began = v.began; calls = v.calls }
 
-        -- who leaned on it leaned on the owner of a map
-        nobody : v.own ≡ None → (j : ℕ) (y : View K V S) → view_of s j ≡ Some y → y.by ≡ Some id → ⊥
-        nobody none j y at e = no_owner y.map (so.owned j id y at e)
-          where
-            no_owner : (o : Option (Map S)) → IsOwner (view_of s) id o → ⊥
-            no_owner None base = base
-            no_owner (Some a) base =
-                let its = ap (λ (x : View K V S). x.own) (same_some v base.0 (sym at_id ∙ base.1)) in let owns = base.2 in cc (none, its, owns)
-
         done : (own : Bool) (before : Option (Map S)) → v.own ≡ before → so_told (with_made v own before map made.looks) → Goes (Holds same hash fixed) KeepsFor s m2 id so_told
         done false before e is = for_good is
         done true (Some other) e is = for_good is
@@ -422,7 +412,7 @@ module _ {K V S : Type 0} (same : K → K → Bool) (hash : S → K → ℕ) (fi
             goes_by maps2 None more (none_more it) (λ e one. absurd (cc one)) founded so_told came refl refl refl (λ other on. cc on) refl
             (λ y at. subst (λ (z : View K V S). KnowsThen same hash fixed s h id z founded) (same_some v y (sym at_id ∙ at)) (record {
               by = λ n e. (e, refl);
-              own = inr (nobody e);
+              own = inr (nobody_by same hash fixed s h id v at_id e);
               map = λ a e. inl (e, refl);
               mine = λ a e. inr (new a e);
               apart = λ a b e g. inl e;
@@ -477,15 +467,13 @@ module _ {K V S : Type 0} (same : K → K → Bool) (hash : S → K → ℕ) (fi
       by so_told (progress.Done setting) is (it, is_made, came) = done so_told setting it came is_made.setting_is is_made.hash_is mine v.own refl is
 
       looks_same : (end : Advance Setting) → (made_after v mine m hasher made.looks led.3 end).looks ≡ made.looks
-      looks_same progress.Goes = refl
-      looks_same progress.Waits = refl
       looks_same (progress.Done setting) = made_looks mine v.own
         where
           made_looks : (own : Bool) (before : Option (Map S)) → (with_made v own before record { number = m; setting = setting; hasher = hasher } made.looks).looks ≡ made.looks
           made_looks true None = refl
           made_looks true (Some other) = refl
           made_looks false before = refl
-      looks_same (progress.Refused fault) = refl
+      looks_same _ = refl
 
       goes : (op : Op (Node K V)) → Goes (Holds same hash fixed) KeepsFor s m2 id (told same hash v op out)
       goes op =

@@ -61,6 +61,14 @@ module _ {K V S : Type 0} (same : K → K → Bool) (hash : S → K → ℕ) (fi
     apart = λ a b e g. inl (sym map ∙ e);
   })
 
+  -- who leans on a seat for a map leans on the owner of one
+  pub nobody_by : (id : ℕ) (v : View K V S) → view_of s id ≡ Some v → v.own ≡ None → (j : ℕ) (y : View K V S) → view_of s j ≡ Some y → y.by ≡ Some id → ⊥
+  nobody_by id v at_id none j y at e = no_owner y.map (are_so.owned j id y at e)
+    where
+      no_owner : (o : Option (Map S)) → IsOwner (view_of s) id o → ⊥
+      no_owner None base = base
+      no_owner (Some a) base = let its = ap (λ (x : View K V S). x.own) (same_some v base.0 (sym at_id ∙ base.1)) in let owns = base.2 in cc (none, its, owns)
+
   -- The seat has come to this view and this scene by this act, as the caller that it is in this place, and the others know what they knew: what changes of slots is its own.
   pub record Moved (id : ℕ) (act : Act K V S) (m : Mem (Node K V)) (w : View K V S) (n : Scene K V) : Type 0 where
     pub memory : m ≡ n.world.memory
