@@ -13,7 +13,7 @@ use types.Kit.{‵, raw, ◌⊛◌, given, ◌$◌, ◌∵◌, !, qed, by, move,
 use denote.Steps.{nothing}
 use Rattle.seize_seats.specs.Seats.Seen.{fact, itself, seen}
 use Rattle.seize_seats.specs.Seats.Owned.{ledger, sitting}
-use Rattle.seize_seats.specs.Seats.Errands.{Away, ViewCode, Aided, Nobody, By, Anyone, IsAide, Lends, AreUnlent, coded_of, aide_stake, stake, stakes, AreAllBack}
+use Rattle.seize_seats.specs.Seats.Errands.{Away, ViewCode, Aide, Aided, These, Anyone, IsOneOf, IsAide, Lends, AreUnlent, coded_of, aide_shares, aide_stake, stake, stakes, AreAllBack}
 use Rattle.seize_seats.proofs.Seats.Views.Ledgers as Ledgers
 
 module _ {M : Type 1} {𝓤 : Ura M} (𝓛 : Logic 𝓤) (α : Lft) {V : Type 0} (c : ViewCode V) (γ : ℕ) where
@@ -148,17 +148,31 @@ module _ {M : Type 1} {𝓤 : Ura M} (𝓛 : Logic 𝓤) (α : Lft) {V : Type 0}
     abbrev Whole : Fml
     Whole = Sn full_share id v
 
-    aside : (a : Aided) → ⟦ Whole ⟧ ∗ ⟦ aide_stake γ a ⟧ ⊢ guard 𝓤 (IsAide a id → ⊥) (⟦ Whole ⟧ ∗ ⟦ aide_stake γ a ⟧)
-    aside Nobody = qed 𝓛 (‵ Whole ∷ ‵ ftrue ∷ []) ∵ check ! (λ none. none) $ done !
-    aside (By a) = by_seat (cases_eq a.seat id)
+    neither : (a : Aide) (as : List Aide) → a.seat ≢ id → (IsOneOf as id → ⊥) → IsOneOf (a ∷ as) id → ⊥
+    neither a as ne none (inl is) = ne is
+    neither a as ne none (inr is) = none is
+
+    all_aside : (as : List Aide) → ⟦ Whole ⟧ ∗ ⟦ aide_shares γ as ⟧ ⊢ guard 𝓤 (IsOneOf as id → ⊥) (⟦ Whole ⟧ ∗ ⟦ aide_shares γ as ⟧)
+    all_aside [] = qed 𝓛 (‵ Whole ∷ ‵ ftrue ∷ []) ∵ check ! (λ none. none) $ done !
+    all_aside (a ∷ as) = by_seat (cases_eq a.seat id)
       where
         Of_a : Fml
-        Of_a = aide_stake γ (By a)
+        Of_a = seen (λ (g : Gv). g) γ a.part a.seat a.view
 
-        by_seat : (a.seat ≡ id) ⊎ (a.seat ≢ id) → ⟦ Whole ⟧ ∗ ⟦ Of_a ⟧ ⊢ guard 𝓤 (a.seat ≡ id → ⊥) (⟦ Whole ⟧ ∗ ⟦ Of_a ⟧)
-        by_seat (inl same) = qed 𝓛 (‵ Whole ∷ ‵ Of_a ∷ []) ∵ rewrite ! 1 (λ (n : ℕ). ‵ (seen (λ (g : Gv). g) γ a.part n a.view)) same refl $
+        All : Fml
+        All = aide_shares γ (a ∷ as)
+
+        by_seat : (a.seat ≡ id) ⊎ (a.seat ≢ id) → ⟦ Whole ⟧ ∗ ⟦ All ⟧ ⊢ guard 𝓤 (IsOneOf (a ∷ as) id → ⊥) (⟦ Whole ⟧ ∗ ⟦ All ⟧)
+        by_seat (inl same) = qed 𝓛 (‵ Whole ∷ (‵ Of_a ⊛ ‵ (aide_shares γ as)) ∷ []) ∵ move ! (1 ∷ []) $ split ! $ move ! (2 ∷ 0 ∷ []) $
+            rewrite ! 1 (λ (n : ℕ). ‵ (seen (λ (g : Gv). g) γ a.part n a.view)) same refl $
             use2 𝓛 (given ⊥ (‵ Whole ⊛ ‵ (seen (λ (g : Gv). g) γ a.part id a.view))) (Ledgers.alone 𝓛 itself γ id a.part (c.code v) a.view) $ learn ! (λ no. absurd no)
-        by_seat (inr ne) = qed 𝓛 (‵ Whole ∷ ‵ Of_a ∷ []) ∵ check ! ne $ done !
+        by_seat (inr ne) = qed 𝓛 (‵ Whole ∷ (‵ Of_a ⊛ ‵ (aide_shares γ as)) ∷ []) ∵ move ! (1 ∷ []) $ split ! $ move ! (2 ∷ 1 ∷ []) $
+            use2 𝓛 (given (IsOneOf as id → ⊥) (‵ Whole ⊛ ‵ (aide_shares γ as))) (all_aside as) $ learn ! (λ none. check ! (neither a as ne none) $ split ! $
+            -- [the whole; the others' shares; the one's]
+            frame ! $ move ! (1 ∷ 0 ∷ []) $ done !)
+
+    aside : (a : Aided) → ⟦ Whole ⟧ ∗ ⟦ aide_stake γ a ⟧ ⊢ guard 𝓤 (IsAide a id → ⊥) (⟦ Whole ⟧ ∗ ⟦ aide_stake γ a ⟧)
+    aside (These as) = all_aside as
     aside Anyone = qed 𝓛 (‵ Whole ∷ ‵ (fact ⊥) ∷ []) ∵ move ! (1 ∷ []) $ fpick ! (λ none. absurd none)
 
     one_unlent : (e : Away) → ⟦ Whole ⟧ ∗ ⟦ stake α γ e ⟧ ⊢ guard 𝓤 (Lends e id → ⊥) (⟦ Whole ⟧ ∗ ⟦ stake α γ e ⟧)
