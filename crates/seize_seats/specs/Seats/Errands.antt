@@ -32,11 +32,11 @@ Away = Option Outing
 -- the seat of this number is one of these
 abbrev pub IsOneOf : List Aide → ℕ → Type 0
 IsOneOf [] n = ⊥
-IsOneOf (a ∷ as) n = (a.seat ≡ n) ⊎ IsOneOf as n
+IsOneOf (a ∷ xs) n = (a.seat ≡ n) ⊎ IsOneOf xs n
 
 -- it is lent
 abbrev pub IsAide : Aided → ℕ → Type 0
-IsAide (These as) n = IsOneOf as n
+IsAide (These xs) n = IsOneOf xs n
 IsAide Anyone n = Unit {0}
 
 abbrev pub Lends : Away → ℕ → Type 0
@@ -59,13 +59,13 @@ aides_inj (x ∷ xs) (y ∷ ys) e =
     λ i. record { seat = (same i).0; view = (same i).1.0; part = (same i).1.1 } ∷ rest i
 
 abbrev pub aide_parts : Aided → Option (List (ℕ × (Gv × Share)))
-aide_parts (These as) = Some (map aide_of as)
+aide_parts (These xs) = Some (map aide_of xs)
 aide_parts Anyone = None
 
 pub aide_parts_inj : (x y : Aided) → aide_parts x ≡ aide_parts y → x ≡ y
-aide_parts_inj (These as) (These bs) e = let same : as ≡ bs = aides_inj as bs (cc e) in λ i. These (same i)
-aide_parts_inj (These as) Anyone e = absurd (cc e)
-aide_parts_inj Anyone (These bs) e = absurd (cc e)
+aide_parts_inj (These xs) (These ys) e = let same : xs ≡ ys = aides_inj xs ys (cc e) in λ i. These (same i)
+aide_parts_inj (These xs) Anyone e = absurd (cc e)
+aide_parts_inj Anyone (These xs) e = absurd (cc e)
 aide_parts_inj Anyone Anyone e = λ i. Anyone
 
 abbrev pub outing_of : Outing → Share × Option (List (ℕ × (Gv × Share)))
@@ -102,10 +102,10 @@ with_away c = record { code = (coded× c away_coded).code; inj = (coded× c away
 -- what is left of the views of seats that are lent, in a ledger of this name
 abbrev pub aide_shares : ℕ → List Aide → Fml
 aide_shares γ [] = ftrue
-aide_shares γ (a ∷ as) = fsep (seen (λ (g : Gv). g) γ a.part a.seat a.view) (aide_shares γ as)
+aide_shares γ (a ∷ xs) = fsep (seen (λ (g : Gv). g) γ a.part a.seat a.view) (aide_shares γ xs)
 
 abbrev pub aide_stake : ℕ → Aided → Fml
-aide_stake γ (These as) = aide_shares γ as
+aide_stake γ (These xs) = aide_shares γ xs
 aide_stake γ Anyone = fact ⊥
 
 -- what a seat has left of the token of a lifetime, and what of a view

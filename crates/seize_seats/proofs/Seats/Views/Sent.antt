@@ -113,12 +113,12 @@ module _ (σ : ℕ) (Is : ℕ → Strip → Type 0) (right : Strip → Fml) (rig
 ledger_keyless : {V : Type 0} (c : V → Gv) (γ : ℕ) (d : V) (vs : List V) → Keyless (ledger c γ d vs)
 ledger_keyless c γ d vs = (quarters_keyless c γ 0 vs, entries_keyless shared_view γ (length vs) _)
 
-aides_keyless : (γ : ℕ) (as : List Aide) → Keyless (aide_shares γ as)
+aides_keyless : (γ : ℕ) (xs : List Aide) → Keyless (aide_shares γ xs)
 aides_keyless γ [] = tt
-aides_keyless γ (a ∷ as) = (entry_keyless shared_view γ a.seat _, aides_keyless γ as)
+aides_keyless γ (a ∷ xs) = (entry_keyless shared_view γ a.seat _, aides_keyless γ xs)
 
 aide_keyless : (γ : ℕ) (a : Aided) → Keyless (aide_stake γ a)
-aide_keyless γ (These as) = aides_keyless γ as
+aide_keyless γ (These xs) = aides_keyless γ xs
 aide_keyless γ Anyone = λ _. tt
 
 stake_keyless : (α : Lft) (γ : ℕ) (e : Away) → Keyless (stake α γ e)

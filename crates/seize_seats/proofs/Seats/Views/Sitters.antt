@@ -148,31 +148,31 @@ module _ {M : Type 1} {𝓤 : Ura M} (𝓛 : Logic 𝓤) (α : Lft) {V : Type 0}
     abbrev Whole : Fml
     Whole = Sn full_share id v
 
-    neither : (a : Aide) (as : List Aide) → a.seat ≢ id → (IsOneOf as id → ⊥) → IsOneOf (a ∷ as) id → ⊥
-    neither a as ne none (inl is) = ne is
-    neither a as ne none (inr is) = none is
+    neither : (a : Aide) (xs : List Aide) → a.seat ≢ id → (IsOneOf xs id → ⊥) → IsOneOf (a ∷ xs) id → ⊥
+    neither a xs ne none (inl is) = ne is
+    neither a xs ne none (inr is) = none is
 
-    all_aside : (as : List Aide) → ⟦ Whole ⟧ ∗ ⟦ aide_shares γ as ⟧ ⊢ guard 𝓤 (IsOneOf as id → ⊥) (⟦ Whole ⟧ ∗ ⟦ aide_shares γ as ⟧)
+    all_aside : (xs : List Aide) → ⟦ Whole ⟧ ∗ ⟦ aide_shares γ xs ⟧ ⊢ guard 𝓤 (IsOneOf xs id → ⊥) (⟦ Whole ⟧ ∗ ⟦ aide_shares γ xs ⟧)
     all_aside [] = qed 𝓛 (‵ Whole ∷ ‵ ftrue ∷ []) ∵ check ! (λ none. none) $ done !
-    all_aside (a ∷ as) = by_seat (cases_eq a.seat id)
+    all_aside (a ∷ xs) = by_seat (cases_eq a.seat id)
       where
         Of_a : Fml
         Of_a = seen (λ (g : Gv). g) γ a.part a.seat a.view
 
         All : Fml
-        All = aide_shares γ (a ∷ as)
+        All = aide_shares γ (a ∷ xs)
 
-        by_seat : (a.seat ≡ id) ⊎ (a.seat ≢ id) → ⟦ Whole ⟧ ∗ ⟦ All ⟧ ⊢ guard 𝓤 (IsOneOf (a ∷ as) id → ⊥) (⟦ Whole ⟧ ∗ ⟦ All ⟧)
-        by_seat (inl same) = qed 𝓛 (‵ Whole ∷ (‵ Of_a ⊛ ‵ (aide_shares γ as)) ∷ []) ∵ move ! (1 ∷ []) $ split ! $ move ! (2 ∷ 0 ∷ []) $
+        by_seat : (a.seat ≡ id) ⊎ (a.seat ≢ id) → ⟦ Whole ⟧ ∗ ⟦ All ⟧ ⊢ guard 𝓤 (IsOneOf (a ∷ xs) id → ⊥) (⟦ Whole ⟧ ∗ ⟦ All ⟧)
+        by_seat (inl same) = qed 𝓛 (‵ Whole ∷ (‵ Of_a ⊛ ‵ (aide_shares γ xs)) ∷ []) ∵ move ! (1 ∷ []) $ split ! $ move ! (2 ∷ 0 ∷ []) $
             rewrite ! 1 (λ (n : ℕ). ‵ (seen (λ (g : Gv). g) γ a.part n a.view)) same refl $
             use2 𝓛 (given ⊥ (‵ Whole ⊛ ‵ (seen (λ (g : Gv). g) γ a.part id a.view))) (Ledgers.alone 𝓛 itself γ id a.part (c.code v) a.view) $ learn ! (λ no. absurd no)
-        by_seat (inr ne) = qed 𝓛 (‵ Whole ∷ (‵ Of_a ⊛ ‵ (aide_shares γ as)) ∷ []) ∵ move ! (1 ∷ []) $ split ! $ move ! (2 ∷ 1 ∷ []) $
-            use2 𝓛 (given (IsOneOf as id → ⊥) (‵ Whole ⊛ ‵ (aide_shares γ as))) (all_aside as) $ learn ! (λ none. check ! (neither a as ne none) $ split ! $
+        by_seat (inr ne) = qed 𝓛 (‵ Whole ∷ (‵ Of_a ⊛ ‵ (aide_shares γ xs)) ∷ []) ∵ move ! (1 ∷ []) $ split ! $ move ! (2 ∷ 1 ∷ []) $
+            use2 𝓛 (given (IsOneOf xs id → ⊥) (‵ Whole ⊛ ‵ (aide_shares γ xs))) (all_aside xs) $ learn ! (λ none. check ! (neither a xs ne none) $ split ! $
             -- [the whole; the others' shares; the one's]
             frame ! $ move ! (1 ∷ 0 ∷ []) $ done !)
 
     aside : (a : Aided) → ⟦ Whole ⟧ ∗ ⟦ aide_stake γ a ⟧ ⊢ guard 𝓤 (IsAide a id → ⊥) (⟦ Whole ⟧ ∗ ⟦ aide_stake γ a ⟧)
-    aside (These as) = all_aside as
+    aside (These xs) = all_aside xs
     aside Anyone = qed 𝓛 (‵ Whole ∷ ‵ (fact ⊥) ∷ []) ∵ move ! (1 ∷ []) $ fpick ! (λ none. absurd none)
 
     one_unlent : (e : Away) → ⟦ Whole ⟧ ∗ ⟦ stake α γ e ⟧ ⊢ guard 𝓤 (Lends e id → ⊥) (⟦ Whole ⟧ ∗ ⟦ stake α γ e ⟧)
