@@ -43,8 +43,6 @@ use Rattle.seize_seats.specs.Plots.Pieces.{kept_words}
 use Rattle.seize_seats.specs.Seats.Errands.{Aided, These, Lends, coded_of}
 use Rattle.seize_seats.specs.Seats.Owned.{BaseId, words_share}
 use Rattle.seize_seats.specs.Seats.Stretches.{seat_shares}
-use Rattle.seize_seats.proofs.Seats.Views.Stretches.{ends}
-use Rattle.seize_seats.proofs.Seats.Stepping.Outings.{pledge}
 use Rattle.seize_seats.proofs.Seats.Views.Shown.{words_laws}
 use Rattle.seize_atoms.specs.Visiting.{Seen, HoldsSince, seat_coded}
 use Rattle.seize_atoms.specs.contracts.words.StripWords as words
