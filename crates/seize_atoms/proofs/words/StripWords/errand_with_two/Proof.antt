@@ -72,8 +72,16 @@ errand_with_two_spec 𝓤 𝓛 𝓜 𝓡 wired X P U F N Y LX LP LU LF LN LY g d
     let self = RefOf (0 ∷ []) tt (plain (λ _. Row)) (λ _. tt) in let sitter = plain (λ _. Sr) in let task = plain (λ _. R₄) in let one_lent = RefOf (2 ∷ []) tt (plain (λ _. Sr)) (λ _. tt) in
     let other_lent = RefOf (3 ∷ []) tt (plain (λ _. Sr)) (λ _. tt) in let Ds : RattleType = Token R₀ R₁ R₂ R₃ g in
     let hs : Stays En.signature.params En.kept = (stay_dropped self yes, (stay_ref (1 ∷ []) tt sitter, (stay_dropped one_lent yes, (stay_dropped other_lent yes, (stay_dropped task no, tt))))) in
-    proved_at 𝓛 En hs c 𝓜 𝓡 (Goes-dropped 𝓛 10 self yes (λ κs x f. refl), (Goes-ref 𝓛 10 1 tt sitter, (Goes-dropped 𝓛 10 one_lent yes (λ κs x f. refl),
-    (Goes-dropped 𝓛 10 other_lent yes (λ κs x f. refl), (Goes-dropped 𝓛 10 task no (λ κs x f. refl), tt)))))
+    proved_at 𝓛 En hs c 𝓜 𝓡 (
+      Goes-dropped 𝓛 10 self yes (λ κs x f. refl),
+      (
+        Goes-ref 𝓛 10 1 tt sitter,
+        (
+          Goes-dropped 𝓛 10 one_lent yes (λ κs x f. refl),
+          (Goes-dropped 𝓛 10 other_lent yes (λ κs x f. refl), (Goes-dropped 𝓛 10 task no (λ κs x f. refl), tt)),
+        ),
+      ),
+    )
     (#self inst) fn (code.unfolded 𝓤 H 𝓜 𝓡 wired (X, (P, (U, (F, (N, (Y, tt)))))) d d') (λ y are.
     let κs = y.0.0 in let qs = y.0.1 in let bounds = y.0.2 in let a = y.0.3 in let vss = y.0.4 in let Post : Val → SProp 𝓤 = (walk_of 𝓛 En hs c).post y in
     let b : ℕ = a.0.ref_ptr.0 in let o : ℕ = a.0.ref_ptr.1 in let b' : ℕ = a.1.0.ref_ptr.0 in let o' : ℕ = a.1.0.ref_ptr.1 in let γ : ℕ = a.1.0.ghost_name in
