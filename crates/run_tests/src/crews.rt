@@ -175,7 +175,7 @@ pub(crate) fn meet<W: Threads + Wait + Sync>(rt: &W, alloc: Global) -> Told<bool
 
 /// One driver makes a map, as it says, or wrongly: whether the crew finds that they agree.
 fn by_one<
-    R: Runner<Event<u64, u64>, Outcome = Outcome<u64>, Run = Run<u64, u64>>,
+    R: Runner<Event<u64, u64>, Outcome = Outcome<u64>, Run = Run<u64, u64>> + Drop,
     N: CrewName,
     W: Wait,
 >(
@@ -199,11 +199,9 @@ where
     let Some(driver) = drivers.pop() else {
         unreachable!()
     };
-    let has_applied = match apply_wrongly(rt, alloc, &crew, driver, wrong) {
-        Ok(driver) => drivers.push(driver).is_ok(),
-        Err(_) => false,
-    };
-    Ok(crew.finish(alloc, drivers)?.is_some() && has_applied)
+    let driver = apply_wrongly(rt, alloc, &crew, driver, wrong)?;
+    drivers.push(driver)?;
+    Ok(crew.finish(alloc, drivers)?.is_some())
 }
 
 /// The same, by a ledger of its own.
