@@ -126,7 +126,7 @@ module _ {M : Type 1} {𝓤 : Ura M} (𝓛 : Logic 𝓤) (X R V F : RattleType) 
   abbrev pub trip : Trip → Lft
   trip x = x.atom ∷ κ₁
 
-  abbrev pub Lender : Sr.Denot → Trip → Fml
+  abbrev Lender : Sr.Denot → Trip → Fml
   Lender h x = LentAgain Sr κ₁ (trip x) (Share.left q₁) γ b o x.name (gone h x)
 
   abbrev On : Sr.Denot → Trip → Pr

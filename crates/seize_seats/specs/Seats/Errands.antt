@@ -43,10 +43,6 @@ abbrev pub Lends : Away → ℕ → Type 0
 Lends None n = ⊥
 Lends (Some o) n = IsAide o.aided n
 
--- with nobody lent
-abbrev pub alone_on : Share → Outing
-alone_on q = record { part = q; aided = These [] }
-
 abbrev pub aide_of : Aide → ℕ × (Gv × Share)
 aide_of a = (a.seat, (a.view, a.part))
 
