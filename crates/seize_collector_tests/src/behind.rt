@@ -7,9 +7,8 @@ use seize_guards::DeferringGuard;
 use seize_shared::{Fixed, OfRows, OwnedGuard, Registration};
 use seize_shared_tests::{DropCounts, dropped as at, table};
 use std::alloc::{AllocError, Global};
-use std::sync::Arc;
-use std::sync::Wait;
 use std::sync::atomic::Ordering::SeqCst;
+use std::sync::{Arc, Wait};
 use std::test::Fail;
 
 /// Batches of one block, and two roots.
@@ -145,7 +144,15 @@ fn values_wait_behind_another_one_and_come_back_after_it_the_last_first(
         let numbers = table(rt.alloc(), 5)?;
         let came = comes_back_alone(&rt, rt.alloc(), &numbers, own)?;
         assert_eq!(rt; came, (true, 0));
-        assert_eq!(rt; (at(&numbers, 1), at(&numbers, 4), at(&numbers, 3), at(&numbers, 2)), (1, 2, 3, 4));
+        assert_eq!(rt;
+            (
+                at(&numbers, 1),
+                at(&numbers, 4),
+                at(&numbers, 3),
+                at(&numbers, 2)
+            ),
+            (1, 2, 3, 4)
+        );
     }
     Ok(())
 }

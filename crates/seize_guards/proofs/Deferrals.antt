@@ -54,9 +54,6 @@ module _ {T : Type 0} (slot a : ℕ) where
   taking_own : (made : Option (ℕ × T)) (u : SlotView T) → IsTaking (Inside slot (beside made a)) u → IsOwn u × (open_at u ≡ Some slot)
   taking_own made u is = let k = taking made u is in (subst IsOwn (sym k.1) tt, ap open_at k.1)
 
-  made_own : (made : Option (ℕ × T)) → IsOwn {T = T} (Inside slot (beside made a))
-  made_own made = tt
-
 module _ {T : Type 0} (defers : T → Option ℕ) (fixed : Fixed) (id : ℕ) (v : Noted T) where
   abbrev MayMake : Op T → Type 0
   MayMake op = Allows (NotedHolds defers fixed) NotedKeeps id v op (noted_observed defers v op)
@@ -215,14 +212,11 @@ module _ {T : Type 0} (slot a : ℕ) (y x : T) (old : ℕ) where
       rw (ne_eqb (block_in old) 0 (λ e. some (is ∙ e))) (ap (λ (k : ℕ). Defers slot (Parts a y k x)) (sym is))
 
 module _ {T : Type 0} (slot a b : ℕ) (w : Noted T) where
-  -- it rests, and what it has seen it has seen still, where it has not unlinked what was there
+  -- it rests
   pub come_rests : (came : Came) → IsCome slot a b w came → IsQuiescent w.knows
   come_rests Nobody is = subst IsQuiescent (sym is.0) tt
   come_rests Waits is = subst IsQuiescent (sym is.0) tt
   come_rests (Unlinks c) is = subst IsQuiescent (sym is.0) tt
-
-  pub come_as : (came other : Came) → came ≡ other → IsCome slot a b w came → IsCome slot a b w other
-  come_as came other is so = subst (IsCome slot a b w) is so
 
 third : (p q : ℕ × Bool × ℕ) → Some p ≡ Some q → p.2 ≡ q.2
 third p q e = ap (λ (x : ℕ × Bool × ℕ). x.2) (same_some p q e)
@@ -232,9 +226,6 @@ abbrev stood : ℕ → ℕ → Option (ℕ × Bool × ℕ)
 stood t n = Some (t, true, n)
 
 module _ {T : Type 0} (t k : ℕ) where
-  pub seen_stands : (v : SlotView T) → v ≡ Inside t (Seen k) → k ≢ 0 → stands_so v ≡ Some (t, true, k)
-  seen_stands v is some = ap stands_so is ∙ rw (ne_eqb k 0 some) refl
-
   seen_of : (has : Has T) → IsLooking has → stands_so (Inside t has) ≡ Some (t, true, k) → k ≢ 0 → Inside t has ≡ Inside t (Seen k)
   seen_of Nothing looks e some = absurd (some (sym (third (t, true, 0) (t, true, k) e)))
   seen_of (Seen b) looks e some = by (b == 0) e
