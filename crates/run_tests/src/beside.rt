@@ -1,13 +1,13 @@
 //! Parts of schedules in which another caller steps beside a call that is under way.
-use crate::schedules::Line;
-use papaya_steps_tests::deeds::EffectRow::{
+use crate::deeds::EffectRow::{
     Block, Copied, Counted, Deferred, GivenUp, Linked, Pair, Removed, Replaced, Retired, Stored,
     TableMade,
 };
-use papaya_steps_tests::steps::Made::{Compute, Insert, RemoveIf, Retain};
-use papaya_steps_tests::steps::ReplyRow::{Aborts, Decides, Gives, Removes};
-use papaya_steps_tests::steps::Step::{Beside, Call, Go, GoBeside, Says};
-use papaya_steps_tests::steps::{ABSENT, ASKS_NONE, COMPLETED, GOES};
+use crate::schedules::Line;
+use crate::steps::Made::{Compute, Insert, RemoveIf, Retain};
+use crate::steps::ReplyRow::{Aborts, Decides, Gives, Removes};
+use crate::steps::Step::{Beside, Call, Go, GoBeside, Says};
+use crate::steps::{ABSENT, ASKS_NONE, COMPLETED, GOES};
 
 /// A call that asked about none asks about the pair, too, that another caller has stored there meanwhile. By then it has a block of its own.
 pub const ASKS_TWICE: [Line; 5] = [

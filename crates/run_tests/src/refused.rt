@@ -1,15 +1,14 @@
 //! Events that are refused memory at one growth after another, and happen again.
-use crate::rows::{MODES, MapRow, MapTry, ROWS, Then};
+use crate::Told;
+use crate::rows::{MapRow, MapTry, Then};
+use crate::steps::Made::{Get, Insert};
+use crate::steps::Step::{self, Enter, Go, Make, Register, Says};
+use crate::steps::{ABSENT, DONE, GOES, NO_MEMORY, SLOT, Shown, found, shown};
 use papaya_raw::ResizeMode;
-use papaya_steps_tests::run_refusing;
-use papaya_steps_tests::steps::Made::{Get, Insert};
-use papaya_steps_tests::steps::Step::{self, Enter, Go, Make, Register, Says};
-use papaya_steps_tests::steps::{ABSENT, DONE, GOES, NO_MEMORY, SLOT, Shown, found, shown};
+use papaya_steps::running::run_refusing;
 use run_schedules::key_hash::KeyHash;
 use run_schedules::setup::Setup;
 use std::alloc::{AllocError, Global};
-use std::process::Abort;
-use std::test::Fail;
 
 const SETUP: Setup = Setup {
     batch_size: 1,
@@ -20,8 +19,8 @@ const SETUP: Setup = Setup {
 /// An event, how many growths it may ask for, and what it is to come to.
 type Planned = (Step, u64, Shown);
 
-/// The events come to what they are to.
-fn plays(rt: &impl Abort, alloc: Global, hasher: KeyHash, planned: &[Planned]) -> Result<(), Fail> {
+/// Whether the events come to what they are to.
+fn plays(alloc: Global, hasher: KeyHash, planned: &[Planned]) -> Told<bool> {
     let mut events = Vec::new(alloc);
     let mut requests = Vec::new(alloc);
     for (step, left, _) in planned {
@@ -36,11 +35,11 @@ fn plays(rt: &impl Abort, alloc: Global, hasher: KeyHash, planned: &[Planned]) -
         Vec::new(alloc),
         requests.as_slice(),
     )?;
-    assert_eq!(rt; run.outcomes.len(), planned.len());
+    let mut is_so = run.outcomes.len() == planned.len();
     for ((_, _, comes_to), outcome) in planned.iter().zip(run.outcomes.iter()) {
-        assert_eq!(rt; shown(outcome), *comes_to);
+        is_so = shown(outcome) == *comes_to && is_so;
     }
-    Ok(())
+    Ok(is_so)
 }
 
 /// Makes the map and fills it: the pair of key k has the number k + 1.
@@ -95,55 +94,44 @@ fn add_call(
     Ok(())
 }
 
-/// Refuses memory at the first growth of a call, then at the second, and so on, through all that it asks for: the pairs are as
-/// before, and the same call afterwards comes to what it is to. So does a call that is refused none.
-fn refused_at_each(
-    rt: &impl Abort,
-    alloc: Global,
-    row: &MapRow,
-    mode: ResizeMode,
-    tried: &MapTry,
-) -> Result<(), Fail> {
+/// Refuses memory at the first growth of a call, then at the second, and so on, through all that it asks for. Tells whether the pairs are as before, and the same call
+/// afterwards comes to what it is to, and so does a call that is refused none.
+fn refused_at_each(alloc: Global, row: &MapRow, mode: ResizeMode, tried: &MapTry) -> Told<bool> {
     let (_, _, comes_to, then, most) = *tried;
+    let mut is_so = true;
     for growths in 0..most {
         let mut planned = filling(alloc, row, mode)?;
         add_call(&mut planned, tried, growths, NO_MEMORY)?;
         add_lookups(&mut planned, row.keys, Then::Same)?;
         add_call(&mut planned, tried, u64::MAX, comes_to)?;
         add_lookups(&mut planned, row.keys, then)?;
-        plays(rt, alloc, row.by, planned.as_slice())?;
+        is_so = plays(alloc, row.by, planned.as_slice())? && is_so;
     }
     let mut planned = filling(alloc, row, mode)?;
     add_call(&mut planned, tried, most, comes_to)?;
     add_lookups(&mut planned, row.keys, then)?;
-    plays(rt, alloc, row.by, planned.as_slice())
+    Ok(plays(alloc, row.by, planned.as_slice())? && is_so)
 }
 
-#[test]
-fn calls_are_refused_memory_and_made_again(rt: HostRuntime) -> Result<(), Fail> {
-    let alloc = rt.alloc();
-    for row in &ROWS {
-        for mode in row.modes {
-            for tried in row.tries {
-                refused_at_each(&rt, alloc, row, *mode, tried)?;
-            }
+/// Tells whether this is so of each call of a row.
+pub(crate) fn calls(alloc: Global, row: &MapRow) -> Told<bool> {
+    let mut is_so = true;
+    for mode in row.modes {
+        for tried in row.tries {
+            is_so = refused_at_each(alloc, row, *mode, tried)? && is_so;
         }
     }
-    Ok(())
+    Ok(is_so)
 }
 
-#[test]
-fn a_registration_and_a_map_are_refused_and_made_again(rt: HostRuntime) -> Result<(), Fail> {
-    let alloc = rt.alloc();
-    for mode in MODES {
-        let planned = [
-            (Make(mode, 6), 0, NO_MEMORY),
-            (Make(mode, 6), 1, NO_MEMORY),
-            (Make(mode, 6), 2, DONE),
-            (Register, 0, NO_MEMORY),
-            (Register, u64::MAX, SLOT),
-        ];
-        plays(&rt, alloc, KeyHash::Key, planned.as_slice())?;
-    }
-    Ok(())
+/// Tells whether a registration and a map are refused, and made again.
+pub(crate) fn makings(alloc: Global, mode: ResizeMode) -> Told<bool> {
+    let planned = [
+        (Make(mode, 6), 0, NO_MEMORY),
+        (Make(mode, 6), 1, NO_MEMORY),
+        (Make(mode, 6), 2, DONE),
+        (Register, 0, NO_MEMORY),
+        (Register, u64::MAX, SLOT),
+    ];
+    plays(alloc, KeyHash::Key, planned.as_slice())
 }

@@ -1,12 +1,12 @@
 //! Calls that are refused memory: on which maps, what they are told, and how many growths they ask for.
 use crate::rows::Then::{Empty, Has, Lacks, Same, Unseen};
-use papaya_raw::ResizeMode::{self, Blocking, Incremental};
-use papaya_steps_tests::steps::Made::{
+use crate::steps::Made::{
     self, Clear, Compute, GetOrInsert, GetOrInsertWith, Insert, Len, Remove, RemoveIf, Reserve,
     Retain, TryInsert, TryInsertWith, Update, UpdateOrInsert, UpdateOrInsertWith, Walk,
 };
-use papaya_steps_tests::steps::ReplyRow::{self, Aborts, Decides, Gives, Removes};
-use papaya_steps_tests::steps::{ABSENT, ASKS_NONE, COMPLETED, NOTHING_TO_REMOVE, READY, Shown};
+use crate::steps::ReplyRow::{self, Aborts, Decides, Gives, Removes};
+use crate::steps::{ABSENT, ASKS_NONE, COMPLETED, NOTHING_TO_REMOVE, READY, Shown};
+use papaya_raw::ResizeMode::{self, Blocking, Incremental};
 use run_schedules::key_hash::KeyHash;
 
 /// What the keys of a map have after a call: what they had; at this key the pair of this number, or none, and at others what they had; or none has a pair. Or

@@ -1,37 +1,36 @@
 //! Schedules, what each of their events comes to and does, and how the runs end.
+use crate::Told;
 use crate::beside::{
     ABORTS, ASKS_ANEW, ASKS_THERE, ASKS_TWICE, COMPUTES, REMOVES, REMOVES_IF, RESIZES_BESIDE,
     UPDATES, UPDATES_THERE,
 };
-use papaya_raw::ResizeMode::{Blocking, Incremental};
-use papaya_steps_tests::deeds::EffectRow::{
+use crate::deeds::EffectRow::{
     self, Back, Block, Bucket, Copied, Counted, Deferred, Ended, GivenUp, Linked, Pair, Promoted,
     Removed, Replaced, Retired, Stored, TableBack, TableMade, TableRetired, Taken,
 };
-use papaya_steps_tests::run;
-use papaya_steps_tests::steps::Made::{Compute, Insert, Remove, RemoveIf, TryInsert, Walk};
-use papaya_steps_tests::steps::ReplyRow::{Decides, Gives};
-use papaya_steps_tests::steps::Step::{
+use crate::steps::Made::{Compute, Insert, Remove, RemoveIf, TryInsert, Walk};
+use crate::steps::ReplyRow::{Decides, Gives};
+use crate::steps::Step::{
     Call, Close, End, Enter, Go, Leave, Make, Next, ReclaimAll, Register, Says, Stop, Unregister,
 };
-use papaya_steps_tests::steps::{ABSENT, DONE, GOES, READY, SLOT, Shown, Step, shown};
+use crate::steps::{ABSENT, DONE, GOES, READY, SLOT, Shown, Step, shown};
+use papaya_raw::ResizeMode::{Blocking, Incremental};
+use papaya_steps::running::run;
 use run_schedules::effect::Effect;
 use run_schedules::key_hash::KeyHash;
 use run_schedules::record::Run;
 use run_schedules::setup::Setup;
 use std::alloc::Global;
-use std::process::Abort;
-use std::test::Fail;
 
 /// An event, what it comes to, and what it does.
 pub type Line = (Step, Shown, &'static [EffectRow]);
 
 /// How a run ends: how many pairs it has stored, how many came back, which ones wait, how many tables do, how many pairs the map has, if it lives, and how many
 /// blocks are there: each pair that did not come back has one, each table that was not reclaimed or taken, the count of a map that lives, and what a call has made.
-type Ends = (u64, usize, &'static [u64], u64, Option<usize>, u64);
+pub(crate) type Ends = (u64, usize, &'static [u64], u64, Option<usize>, u64);
 
 /// The size of batches, the lines of a schedule, and how its run ends.
-type Schedule = (u64, &'static [&'static [Line]], Ends);
+pub(crate) type Schedule = (u64, &'static [&'static [Line]], Ends);
 
 const SMALL: [Line; 3] = [
     (Register, SLOT, &[Bucket]),
@@ -329,7 +328,7 @@ const ASKS: [Line; 10] = [
     (Leave, DONE, &[TableBack(0), Back(1)]),
 ];
 
-const SCHEDULES: [Schedule; 16] = [
+pub(crate) const SCHEDULES: [Schedule; 16] = [
     (1, &[], (0, 0, &[], 0, None, 0)),
     (1, &[&SMALL, &REPLACED], (2, 1, &[], 0, Some(1), 3)),
     (
@@ -409,69 +408,64 @@ fn setup(batch_size: u64) -> Setup {
 }
 
 /// Runs the events of these lines.
-fn played(alloc: Global, batch_size: u64, parts: &[&[Line]]) -> Result<Run<u64, u64>, Fail> {
+fn played(alloc: Global, batch_size: u64, parts: &[&[Line]]) -> Told<Run<u64, u64>> {
     let mut events = Vec::new(alloc);
     for part in parts {
         for (step, _, _) in *part {
             events.push(step.event(alloc)?)?;
         }
     }
-    Ok(run(
+    run(
         alloc,
         setup(batch_size),
         KeyHash::Key,
         events,
         Vec::new(alloc),
-    )?)
+    )
 }
 
-/// An event did this.
-fn did_so(rt: &impl Abort, did: &[Effect], does: &[EffectRow]) {
-    assert_eq!(rt; did.len(), does.len());
+/// Whether an event did this.
+fn did_so(did: &[Effect], does: &[EffectRow]) -> bool {
+    let mut is_so = did.len() == does.len();
     for (effect, deed) in did.iter().zip(does.iter()) {
-        assert!(rt; *effect == deed.effect());
+        is_so = *effect == deed.effect() && is_so;
     }
+    is_so
 }
 
-/// Each event came to what its line says, and did it.
-fn is_as_told(rt: &impl Abort, run: &Run<u64, u64>, parts: &[&[Line]]) {
+/// Whether each event came to what its line says, and did it.
+fn is_as_told(run: &Run<u64, u64>, parts: &[&[Line]]) -> bool {
     let mut outcomes = run.outcomes.iter();
     let mut effects = run.effects.iter();
+    let mut is_so = true;
     for part in parts {
         for (_, comes_to, does) in *part {
-            match (outcomes.next(), effects.next()) {
-                (Some(outcome), Some(did)) => {
-                    assert_eq!(rt; shown(outcome), *comes_to);
-                    did_so(rt, did.as_slice(), does);
-                }
-                _ => panic!(rt; "an event is missing"),
-            }
+            is_so = match (outcomes.next(), effects.next()) {
+                (Some(outcome), Some(did)) => shown(outcome) == *comes_to
+                    && did_so(did.as_slice(), does)
+                    && is_so,
+                _ => false,
+            };
         }
     }
+    is_so
 }
 
-/// The run ends so.
-fn ends_as_told(rt: &impl Abort, run: &Run<u64, u64>, ends: Ends) {
+/// Whether the run ends so.
+fn ends_as_told(run: &Run<u64, u64>, ends: Ends) -> bool {
     let (stored, given_back, waiting, tables, living, live) = ends;
-    assert_eq!(rt;
-        (run.stored, run.given_back.len(), run.tables, run.live),
-        (stored, given_back, tables, live)
-    );
-    assert_eq!(rt; run.waiting.as_slice(), waiting);
-    match (run.maps.first(), living) {
-        (None, None) => assert_eq!(rt; run.kept.len(), waiting.len()),
-        (Some(map), Some(pairs)) => assert_eq!(rt; map.pairs.len(), pairs),
-        _ => panic!(rt; "another map"),
-    }
+    let counts = (run.stored, run.given_back.len(), run.tables, run.live);
+    let left = match (run.maps.first(), living) {
+        (None, None) => run.kept.len() == waiting.len(),
+        (Some(map), Some(pairs)) => map.pairs.len() == pairs,
+        _ => false,
+    };
+    left && counts == (stored, given_back, tables, live) && run.waiting.as_slice() == waiting
 }
 
-#[test]
-fn schedules_come_to_what_is_told_of_them(rt: HostRuntime) -> Result<(), Fail> {
-    let alloc = rt.alloc();
-    for (batch_size, parts, ends) in SCHEDULES {
-        let run = played(alloc, batch_size, parts)?;
-        is_as_told(&rt, &run, parts);
-        ends_as_told(&rt, &run, ends);
-    }
-    Ok(())
+/// Tells whether a schedule comes to what its lines say, and its run ends so.
+pub(crate) fn holds(alloc: Global, schedule: &Schedule) -> Told<bool> {
+    let (batch_size, parts, ends) = *schedule;
+    let run = played(alloc, batch_size, parts)?;
+    Ok(is_as_told(&run, parts) && ends_as_told(&run, ends))
 }

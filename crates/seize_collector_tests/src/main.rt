@@ -5,6 +5,8 @@
 #![tactic(auto)]
 
 #[cfg(test)]
+mod behind;
+#[cfg(test)]
 mod desks;
 #[cfg(test)]
 mod forgotten;

@@ -1,3 +1,4 @@
+pub mod Deferrals
 pub mod Chains
 pub mod Drawers
 pub mod Samples

@@ -7,7 +7,7 @@ use Rattle.seize.specs.declared.rows.defer.Deferring.{Deferring}
 use Rattle.seize_views.specs.declared.view.Began.TheVariants.{Deferral}
 use Rattle.seize_views.specs.declared.view.Deferral.TheVariants.{Puts}
 use Rattle.seize_views.specs.declared.view.Has.{Has}
-use Rattle.seize_views.specs.declared.view.Has.TheVariants.{Nothing, Seen, Both, Cut}
+use Rattle.seize_views.specs.declared.view.Has.TheVariants.{Seen, Both, Cut}
 use Rattle.seize_views.specs.declared.view.Noted.{Noted}
 use Rattle.seize_views.specs.declared.view.SlotView.{SlotView}
 use Rattle.seize_views.specs.declared.view.SlotView.TheVariants.{Inside, Defers}
@@ -32,9 +32,3 @@ module _ {T : Type 0} where
   IsCome slot a b w Nobody = (w.knows ≡ Inside slot (Seen a)) × (b ≡ 0)
   IsCome slot a b w Waits = (w.knows ≡ Inside slot (Seen a)) × (b ≢ 0) × (w.began ≡ Deferral)
   IsCome slot a b w (Unlinks c) = (w.knows ≡ Inside slot (Cut c)) × (b ≡ c) × (c ≢ 0) × (c < 2 ^ 53)
-
-  -- and that was retired
-  abbrev pub IsOver : ℕ → ℕ → ℕ → Noted T → Came → Type 0
-  IsOver slot a b w Nobody = (w.knows ≡ Inside slot (Seen a)) × (b ≡ 0)
-  IsOver slot a b w Waits = (w.knows ≡ Inside slot (Seen a)) × (b ≢ 0) × (w.began ≡ Deferral)
-  IsOver slot a b w (Unlinks c) = (w.knows ≡ Inside slot Nothing) × (b ≢ 0)

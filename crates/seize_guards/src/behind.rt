@@ -1,8 +1,9 @@
 //! Guards that let a value wait behind the one that they have seen: it comes back once that one has.
 ghost use Rattle.std.specs.Prelude.{◌≡◌, ◌≢◌, ◌<◌, ◌⊎◌, ℕ, Option, Some, None, IfOk, IfErr, true, false};
 ghost use Rattle.seize_words.specs.OneMemory.Word.{block_in};
-ghost use Rattle.seize_guards.specs.Behind.{IsOver, beside, value_made};
+ghost use Rattle.seize_guards.specs.Behind.{beside, value_made};
 ghost use Rattle.seize_shared.specs.Guards.Deeds.{has_put, has_taken};
+ghost use Rattle.seize_shared.specs.OnThreads.Standing.{standing};
 ghost use Rattle.seize_views.specs.Views.Deferring.{LinksSo};
 ghost use Rattle.seize_views.specs.Views.Notes.{written_at};
 ghost use Rattle.seize_views.specs.declared.view.Began.TheVariants.{Deferral};
@@ -47,7 +48,15 @@ fn has_seen<T: Defers + Drop>(stay: &Stay<'_, T>, root: u64) -> bool
     stay.inside && stay.seen != 0 && root < stay.roots
 }
 
-/// Takes out what a root names, where it puts this word, and puts it behind the block that was seen, or retires it; answers the word that was there.
+/// What came of it: the word that was at the root, whether the block that it named waits, and which one is seen then, 0 for none.
+#[derive(Drop)]
+struct Taken {
+    old: u64,
+    waits: bool,
+    seen: u64,
+}
+
+/// Takes out what a root names, where it puts this word, and puts it behind the block that was seen, or retires it.
 fn takes<T: Defers + Drop, W: Wait>(
     caller: &mut Caller<'_, T>,
     rt: &W,
@@ -55,12 +64,16 @@ fn takes<T: Defers + Drop, W: Wait>(
     seen: u64,
     root: u64,
     word: u64,
-) -> (u64, Came)
+) -> Taken
     requires seen { (made : Option (ℕ × T)) × (caller.old.seat.view.knows ≡ Inside slot (beside made seen)) × LinksSo made word }
+    requires some { seen ≢ 0 }
     requires root { root < caller.old.blocks.now.words.fixed.roots }
-    ensures over { IsOver slot seen (block_in result.0) caller.new.seat.view result.1 }
+    ensures stands { standing caller.new.seat.view.knows ≡ Some (slot, true, result.seen) }
+    ensures either { (result.seen ≡ 0) ⊎ (result.seen ≡ seen) }
+    ensures waits { result.waits ≡ true → (caller.new.seat.view.began ≡ Deferral) × (result.seen ≡ seen) }
+    ensures one { result.waits ≡ true → block_in result.old ≢ 0 }
     ensures did { (made : Option (ℕ × T)) → caller.old.seat.view.knows ≡ Inside slot (beside made seen)
-        → caller.new.seat.view.did ≡ Wrote root word (value_made made) result.0 }
+        → caller.new.seat.view.did ≡ Wrote root word (value_made made) result.old }
     ensures guards { caller.new.seat.view.guards ≡ caller.old.seat.view.guards }
     ensures blocks { caller.new.blocks ≡ caller.old.blocks }
 {
@@ -73,10 +86,26 @@ fn takes<T: Defers + Drop, W: Wait>(
         word,
     };
     let (old, came) = blocks.errand(&mut caller.seat, errand);
-    if let Came::Unlinks(block) = came {
-        caller.retire(slot, block);
+    match came {
+        Came::Nobody => Taken {
+            old,
+            waits: false,
+            seen,
+        },
+        Came::Waits => Taken {
+            old,
+            waits: true,
+            seen,
+        },
+        Came::Unlinks(block) => {
+            caller.retire(slot, block);
+            Taken {
+                old,
+                waits: false,
+                seen: 0,
+            }
+        }
     }
-    (old, came)
 }
 
 /// Takes the value from a root, and tells whether it waits behind the one that was seen; else it is retired.
@@ -91,19 +120,13 @@ fn clears_behind<T: Defers + Drop, W: Wait>(stay: &mut Stay<'_, T>, rt: &W, root
     ensures taken { result ≡ true → has_taken stay.new.caller.seat.view.did ≡ Some root }
     ensures other { result ≡ false → (has_taken stay.new.caller.seat.view.did ≡ Some root) ⊎ (written_at stay.new.caller.seat.view.did ≡ Some (root, None, 0)) }
 {
-    let (_, came) = takes(&mut stay.caller, rt, stay.slot, stay.seen, root, 0);
-    match came {
-        Came::Nobody => false,
-        Came::Waits => true,
-        Came::Unlinks(_) => {
-            stay.seen = 0;
-            false
-        }
-    }
+    let taken = takes(&mut stay.caller, rt, stay.slot, stay.seen, root, 0);
+    stay.seen = taken.seen;
+    taken.waits
 }
 
 /// Puts a value at a root, and tells whether the one that was there waits behind the one that was seen; else it is retired.
-fn puts_behind<T: Defers + Drop, W: Wait>(
+fn swaps_behind<T: Defers + Drop, W: Wait>(
     stay: &mut Stay<'_, T>,
     rt: &W,
     root: u64,
@@ -124,20 +147,16 @@ fn puts_behind<T: Defers + Drop, W: Wait>(
         Err(value) => return Err(value),
     };
     let word = Link::to(block);
-    let (_, came) = takes(&mut stay.caller, rt, stay.slot, stay.seen, root, word);
-    match came {
-        Came::Nobody => Ok(false),
-        Came::Waits => Ok(true),
-        Came::Unlinks(_) => {
-            stay.seen = 0;
-            Ok(false)
-        }
-    }
+    let taken = takes(&mut stay.caller, rt, stay.slot, stay.seen, root, word);
+    stay.seen = taken.seen;
+    Ok(taken.waits)
 }
 
-impl<'r, 'a, T: Defers + Drop, R: Receiver<T>> DeferringGuard<T> for LocalGuard<'r, 'a, T, OfRows, R> {
+impl<'r, 'a, T: Defers + Drop, R: Receiver<T>> DeferringGuard<T>
+    for LocalGuard<'r, 'a, T, OfRows, R> {
     fn clear_behind<W: Wait>(&mut self, rt: &W, root: u64) -> bool {
-        if !has_seen(&self.registration.stay, root) {
+        let registration = &*self.registration;
+        if !has_seen(&registration.stay, root) {
             self.clear(root);
             return false;
         }
@@ -146,12 +165,13 @@ impl<'r, 'a, T: Defers + Drop, R: Receiver<T>> DeferringGuard<T> for LocalGuard<
     }
 
     fn put_behind<W: Wait>(&mut self, rt: &W, root: u64, value: T) -> Result<bool, T> {
-        if !has_seen(&self.registration.stay, root) {
+        let registration = &*self.registration;
+        if !has_seen(&registration.stay, root) {
             self.put(root, value)?;
             return Ok(false);
         }
         let registration = &mut *self.registration;
-        puts_behind(&mut registration.stay, rt, root, value)
+        swaps_behind(&mut registration.stay, rt, root, value)
     }
 }
 
@@ -169,6 +189,6 @@ impl<'a, T: Defers + Drop, R: Receiver<T>> DeferringGuard<T> for OwnedGuard<'a, 
             self.put(root, value)?;
             return Ok(false);
         }
-        puts_behind(&mut self.stay, rt, root, value)
+        swaps_behind(&mut self.stay, rt, root, value)
     }
 }

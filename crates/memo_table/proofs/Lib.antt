@@ -1,2 +1,0 @@
--- Lemmas on a memo of the Fibonacci sequence.
-mod Memos

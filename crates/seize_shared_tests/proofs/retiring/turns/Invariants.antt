@@ -1,6 +1,0 @@
-use Rattle.std.specs.Prelude.{◌≡◌}
-use Rattle.seize_shared_tests.proofs.retiring.turns.Given as goal
-
--- the pass is of the memory that it was of
-abbrev pub invariant-loop-turn : goal.invariant-loop-turn
-invariant-loop-turn l = l.pass.pass.seat.base ≡ l.initial.pass.pass.seat.base

@@ -1,2 +1,0 @@
--- Lemmas on sessions that are removed or kept.
-mod Kept
