@@ -1,6 +1,6 @@
 -- A call whose code is ahead of its machine: turns lead to one point that makes an operation, and the seat may take them, or those with which the call ends.
 use Rattle.std.specs.Prelude.{Option, None, List}
-use Rattle.std.proofs.Common.{◌≡◌, ℕ, Bool, refl, sym, subst, ap, ◌∙◌}
+use Rattle.std.proofs.Common.{◌≡◌, ℕ, Bool, inl, inr, refl, sym, subst, ap, ◌∙◌}
 use Rattle.seize_words.specs.OneMemory.Op.{Op}
 use Rattle.seize_words.specs.OneMemory.Plan.{Plan, Turn, Do, Now, Seeing, Sure, plan_as}
 use Rattle.seize_blocks.specs.Given.SeizeSeatsState.{Turns}

@@ -1,5 +1,5 @@
 -- A step of the making of a map, of a seat: it may be taken, and the seat knows how far it has come.
-use Rattle.std.specs.Prelude.{Some}
+use Rattle.std.specs.Prelude.{Some, None}
 use Rattle.std.proofs.Common.{◌≡◌, ℕ, Bool, false, subst, ap, ◌∙◌}
 use Rattle.seize_words.specs.OneMemory.Op.{Op, Out}
 use Rattle.seize_words.specs.OneMemory.Plan.{Plan, May, Steps}
@@ -56,11 +56,13 @@ module _ {K V S : Type 0} (same : K → K → Bool) (hash : S → K → ℕ) (c 
 
   so_far : (n : Within K V S) (end : NewMap × Advance Setting) → n.seat.now.view ≡ made_after c.seat.now.view false is.number hasher n.seat.now.view.looks end.0 end.1 → GoesEarly end
       → MadeSo hasher end.0 end.1 n.seat.now.view × KnowsStill end.1 c.seat.now.view n.seat.now.view × (side_of n.seat.now.view ≡ side_of c.seat.now.view) × (n.seat.now.view.calls ≡ c.seat.now.view.calls)
+      × (c.seat.now.view.by ≡ None → n.seat.now.view.by ≡ None)
   so_far n (d, progress.Goes) view early = (
     record { number = is.number; works = ap (λ (v : View K V S). v.work) view; early = early.0; none = early.1 },
     ap (λ (v : View K V S). v.map) view,
     ap (λ (v : View K V S). side_of v) view,
     ap (λ (v : View K V S). v.calls) view,
+    λ good. ap (λ (v : View K V S). v.by) view ∙ good,
   )
   so_far n (d, progress.Waits) view none = absurd none
   so_far n (d, progress.Done setting) view early = (
@@ -68,9 +70,15 @@ module _ {K V S : Type 0} (same : K → K → Bool) (hash : S → K → ℕ) (c 
     tt,
     ap (λ (v : View K V S). side_of v) view,
     ap (λ (v : View K V S). v.calls) view,
+    λ good. ap (λ (v : View K V S). v.by) view,
   )
-  so_far n (d, progress.Refused fault) view early =
-      (ap (λ (v : View K V S). v.work) view, ap (λ (v : View K V S). v.map) view, ap (λ (v : View K V S). side_of v) view, ap (λ (v : View K V S). v.calls) view)
+  so_far n (d, progress.Refused fault) view early = (
+    ap (λ (v : View K V S). v.work) view,
+    ap (λ (v : View K V S). v.map) view,
+    ap (λ (v : View K V S). side_of v) view,
+    ap (λ (v : View K V S). v.calls) view,
+    λ good. ap (λ (v : View K V S). v.by) view ∙ good,
+  )
 
   -- what a step has come to
   pub record Got (n : Within K V S) (end : NewMap × Advance Setting) : Type 0 where
@@ -78,6 +86,7 @@ module _ {K V S : Type 0} (same : K → K → Bool) (hash : S → K → ℕ) (c 
     pub map : KnowsStill end.1 c.seat.now.view n.seat.now.view
     pub slot : side_of n.seat.now.view ≡ side_of c.seat.now.view
     pub calls : n.seat.now.view.calls ≡ c.seat.now.view.calls
+    pub good : c.seat.now.view.by ≡ None → n.seat.now.view.by ≡ None
     pub chosen : StaysChosen opening end.0 end.1
     pub left : GetsOn opening end.0 end.1
     pub seat : IsSameSeat c n
@@ -89,4 +98,4 @@ module _ {K V S : Type 0} (same : K → K → Bool) (hash : S → K → ℕ) (c 
       let one : t.end ≡ end = follows_one (shown_of n) plan k.1 t.end end t.follows k.4 in
       let view = t.view ∙ ap (λ (e : NewMap × Advance Setting). made_after c.seat.now.view false is.number hasher n.seat.now.view.looks e.0 e.1) one in
       let so = tells opening is.none (shown_of n) is.early k.0 k.1 end k.2 k.3.fits k.4 in
-      let s = so_far n end view so.0 in record { made = s.0; map = s.1; slot = s.2; calls = s.3; chosen = so.1; left = so.2; seat = k.3.seat }
+      let s = so_far n end view so.0 in record { made = s.0; map = s.1; slot = s.2; calls = s.3; good = s.4; chosen = so.1; left = so.2; seat = k.3.seat }

@@ -72,6 +72,7 @@ module _ {K V S : Type 0} (plans : S → NewMap → Type 0) (hasher : S) (openin
     made = came.made;
     refused = refused_there answer came.refused;
     slot = came.slot ∙ ap (λ (x : View K V S). side_of x) begins.4;
+    good = λ e. came.good (ap (λ (x : View K V S). x.by) begins.4 ∙ e);
     calls = came.calls ∙ ap (λ (x : View K V S). x.calls) begins.4;
   }
 

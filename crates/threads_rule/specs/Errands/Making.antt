@@ -1,5 +1,5 @@
 -- What a seat knows while it makes a map of no table, and once that is there.
-use Rattle.std.specs.Prelude.{false, ◌≡◌, ℕ, ◌+◌, ◌-◌, ◌^◌, ◌<◌, Some, Result, IfOk, IfErr}
+use Rattle.std.specs.Prelude.{false, ◌≡◌, ℕ, ◌+◌, ◌-◌, ◌^◌, ◌<◌, Some, None, Result, IfOk, IfErr}
 use Rattle.std.specs.Int.{IsPowerOfTwo}
 use Rattle.seize_words.specs.declared.fault.Fault.{Fault}
 use Rattle.seize.specs.declared.advance.Advance.{Advance}
@@ -77,11 +77,12 @@ module _ {K V S : Type 0} where
   MadeSo hasher c (progress.Done setting) v = HasMap hasher setting v
   MadeSo hasher c (progress.Refused fault) v = v.work ≡ Nothing
 
-  -- What a making has come to: the map is there, with what was chosen, or nothing was made, and the seat knows what it has known. No call has begun.
+  -- What a making has come to: the map is there, with what was chosen, or nothing was made, and the seat knows what it has known. It leans on no owner, if it leant on none. No call has begun.
   pub record HasOutcome (hasher : S) (opening : NewMap) (answer : Result Setting Fault) (v w : View K V S) : Type 0 where
     pub made : IfOk answer (λ setting. HasMap hasher setting w × (chosen_of setting ≡ chosen_of opening.setting))
     pub refused : IfErr answer (λ fault. (w.work ≡ Nothing) × (w.map ≡ v.map))
     pub slot : side_of w ≡ side_of v
+    pub good : v.by ≡ None → w.by ≡ None
     pub calls : w.calls ≡ v.calls
 
   -- the map that it knows is the same, but where it has made one

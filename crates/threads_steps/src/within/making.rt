@@ -48,6 +48,7 @@ impl<'a, K: Eq + Drop, V: Drop, S: Hashes<K>> Within<'a, K, V, S> {
         ensures chosen { StaysChosen opening.old opening.new result }
         ensures left { GetsOn opening.old opening.new result }
         ensures slot { side_of self.new.seat.now.view ≡ side_of self.old.seat.now.view }
+        ensures good { self.old.seat.now.view.by ≡ None → self.new.seat.now.view.by ≡ None }
         ensures calls { self.new.seat.now.view.calls ≡ self.old.seat.now.view.calls }
         ensures same { IsSameSeat self.old self.new }
     {
