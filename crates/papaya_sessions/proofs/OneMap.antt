@@ -85,7 +85,7 @@ module _ {K V S : Type 0} {h : hashing.Ghosts K} (same : K → K → Bool) (hash
 
   -- the call that it has made, which was to do this, and was told that
   abbrev begun : (wanted : Wanted K V) (told : Progress (Node K V)) → HasRun same hash wanted told v w → BegunCall K V
-  begun wanted told run = record { began = machine_for same hash run.0 run.1 wanted; told = told }
+  begun wanted told run = record { map = run.0.number; began = machine_for same hash run.0 run.1 wanted; told = told }
 
   section : (t : ℕ) → section_of v.under v.slot ≡ Some t → section_of w.under w.slot ≡ Some t
   section t it = is_within ∙ sym was_within ∙ it
@@ -202,7 +202,7 @@ module _ {K V S : Type 0} {h : hashing.Ghosts K} (same : K → K → Bool) (hash
     pub has_computed : (done : ComputedPair T) → HasComputed same hash Is Gives done v w → MapComputed same hash Is Gives done c n
     has_computed done has =
         let key = has.told.0 in let u = has.before in let run = has.told.2.ran in let there = has.told.2.stays in
-        let its : BegunCall K V = record { began = machine_for same hash run.0 run.1 (Compute key); told = outcome_of (Ok has.answer) } in
+        let its : BegunCall K V = record { map = run.0.number; began = machine_for same hash run.0 run.1 (Compute key); told = outcome_of (Ok has.answer) } in
         let within = ap (λ s. section_of s.1 s.0) there.slot ∙ run.3 in (
           has,
           all_told key done has.answer has.so

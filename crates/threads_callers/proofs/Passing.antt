@@ -1,7 +1,7 @@
 -- A seat leans on one that is within its section, looks a key up there, and comes back: that it may, and what that has come to.
 use Rattle.std.specs.Prelude.{List, Option, Some, None, IfSome, IfNone, ◌∷◌}
-use Rattle.std.proofs.Common.{◌≡◌, ℕ, Bool, true, sym, subst, ap, ◌∙◌}
-use Rattle.threads_errands.specs.Given.ViewsBegun.{machine_for, shown_map}
+use Rattle.std.proofs.Common.{◌≡◌, ◌⊎◌, ℕ, Bool, inl, inr, true, sym, subst, ap, ◌∙◌}
+use Rattle.threads_errands.specs.Given.ViewsBegun.{leaning, machine_for, shown_map}
 use Rattle.threads_errands.specs.Given.ActsActs.{Wanted, Get}
 use Rattle.papaya_raw.specs.declared.machines.progress.Progress.{Progress}
 use Rattle.map_machines.specs.declared.lookup.Lookup.{Lookup}
@@ -15,7 +15,7 @@ use Rattle.map_tables.specs.declared.node.Node.TheVariants.{Pair}
 use Rattle.threads_errands.specs.Given.ViewsLooks.{shown_in}
 use Rattle.threads_errands.specs.Given.ViewsNotes.{SeatIsQuiescent}
 use Rattle.threads_errands.specs.Given.ViewsPromises.{LeaningsBegin}
-use Rattle.threads_errands.specs.Given.ViewsRule.{Holds, KeepsFor, section_of}
+use Rattle.threads_errands.specs.Given.ViewsRule.{Holds, IsBy, KeepsFor, Leans, LeansOn, section_of}
 use Rattle.threads_errands.specs.Given.ViewsDeclared.view.Map.{Map}
 use Rattle.threads_errands.specs.Given.ViewsDeclared.view.BegunCall.{BegunCall}
 use Rattle.threads_errands.specs.Given.ViewsDeclared.view.View.{View}
@@ -31,6 +31,11 @@ module _ {K V S : Type 0} (same : K → K → Bool) (hash : S → K → ℕ) (fi
       let inside = own_inside u may.slot lone may.inside in
       let g = law fixed i j may.slot v u back.rests back.lone back.free inside s h at_i at_j ne in
       (g.0, g.1, g.2, g.3, (may.slot, inside, g.4))
+
+-- who has come to lean on another one, or on none, leans on that one, or on whom it leant
+pub leans_so : {K V S : Type 0} (v w : View K V S) (under : Option (ℕ × ℕ)) (n : ℕ) {X : Type 0} → w ≡ leaning v under → (LeansOn under n → X) → Leans w n → Leans v n ⊎ X
+leans_so {K} {V} {S} v w under n is lent (inl leans) = inr (lent (subst (λ (x : View K V S). LeansOn x.under n) is leans))
+leans_so {K} {V} {S} v w under n is lent (inr leans) = inl (inr (subst (λ (x : View K V S). IsBy x.by n) is leans))
 
 -- the key of a pair
 abbrev key_in : {K V : Type 0} → K → Option (Node K V) → K
