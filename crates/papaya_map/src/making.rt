@@ -52,6 +52,7 @@ fn begun<K: Eq + Hash + Drop, V: Drop, S: Hashes<K>>(
     ensures rests { IfOk result (λ r. r.0.view.slot ≡ Rests) }
     ensures free { IfOk result (λ r. r.0.view.work ≡ NoWork) }
     ensures lone { IfOk result (λ r. r.0.view.under ≡ None) }
+    ensures good { IfOk result (λ r. r.0.view.by ≡ None) }
     ensures knows { IfOk result (λ r. known_by r.0.view ≡ Some (r.1, hasher.now)) }
     ensures sized { IfOk result (λ r. blocks.now.words.fixed.batch_size ≡ r.1.batch_size) }
     ensures mode { IfOk result (λ r. r.1.mode ≡ making.mode) }

@@ -32,6 +32,7 @@ pub struct HashMap<K: Eq + Hash + Drop, V: Drop, S: Hashes<K> = RandomState> {
     pub(crate) ghost rests: { seat.view.slot ≡ Rests },
     pub(crate) ghost free: { seat.view.work ≡ NoWork },
     pub(crate) ghost lone: { seat.view.under ≡ None },
+    pub(crate) ghost good: { seat.view.by ≡ None },
     pub(crate) ghost knows: { known_by seat.view ≡ Some (setting, hasher) },
     pub(crate) ghost sized: { home.blocks.words.fixed.batch_size ≡ setting.batch_size },
     pub(crate) ghost only: { (home.blocks.words.fixed.roots ≡ 1) × (home.blocks.words.fixed.chains ≡ 0) },

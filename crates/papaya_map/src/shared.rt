@@ -24,6 +24,7 @@ pub struct SharedMap<'m, K: Eq + Hash + Drop, V: Drop, S: Hashes<K> = RandomStat
     /// The number of its collector.
     pub(crate) number: u64,
     pub(crate) ghost own: { seat.now.base ≡ blocks.now.words.id.views_name },
+    pub(crate) ghost good: { seat.now.view.by ≡ None },
     pub(crate) ghost knows: { known_by seat.now.view ≡ Some (setting, hasher.now) },
     pub(crate) ghost sized: { blocks.now.words.fixed.batch_size ≡ setting.batch_size },
     pub(crate) ghost small: { nat_lt blocks.now.words.fixed.batch_size (2 ^ 64) ≡ true },

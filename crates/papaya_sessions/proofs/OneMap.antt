@@ -85,25 +85,25 @@ module _ {K V S : Type 0} {h : hashing.Ghosts K} (same : K → K → Bool) (hash
 
   -- the call that it has made, which was to do this, and was told that
   abbrev begun : (wanted : Wanted K V) (told : Progress (Node K V)) → HasRun same hash wanted told v w → BegunCall K V
-  begun wanted told run = record { began = machine_for same hash run.0 run.1 wanted; told = told }
+  begun wanted told run = record { map = run.0.number; began = machine_for same hash run.0 run.1 wanted; told = told }
 
   section : (t : ℕ) → section_of v.under v.slot ≡ Some t → section_of w.under w.slot ≡ Some t
   section t it = is_within ∙ sym was_within ∙ it
 
   pub had_none : (key : K) → HasRun same hash (Get key) (found_of None) v w → MapHad same hash key None c n
-  had_none key run = (run, found_none same hash fixed small n.seat.id run.1 w run.0 (begun (Get key) (found_of None) run) v.calls (stays ∙ run.2) (section run.1 run.3) run.4 key refl refl)
+  had_none key run = (run, found_none same hash fixed small n.seat.id run.1 w run.0 (begun (Get key) (found_of None) run) v.calls (stays ∙ run.2) (section run.1 run.3) run.4 refl key refl refl)
 
   pub had_value : (key : K) (value : V) → HasGot same hash key (Some value) c n → MapHad same hash key (Some value) c n
   had_value key value (word, run, shown, lent) = (
     (word, run, shown, lent),
-    found_value same hash fixed small n.seat.id run.1 w run.0 (begun (Get key) (found_of (Some word)) run) v.calls (stays ∙ run.2) (section run.1 run.3) run.4 key word lent.0 value refl refl lent.1,
+    found_value same hash fixed small n.seat.id run.1 w run.0 (begun (Get key) (found_of (Some word)) run) v.calls (stays ∙ run.2) (section run.1 run.3) run.4 refl key word lent.0 value refl refl lent.1,
   )
 
   looked : (key : K) (found : Option ℕ) → HasRun same hash (ContainsKey key) (found_of found) v w → HasLooked same hash fixed n.seat.id w key (is_some found)
   looked key None run =
-      has_missed same hash fixed small n.seat.id run.1 w run.0 (begun (ContainsKey key) (found_of None) run) v.calls (stays ∙ run.2) (section run.1 run.3) run.4 key refl refl
+      has_missed same hash fixed small n.seat.id run.1 w run.0 (begun (ContainsKey key) (found_of None) run) v.calls (stays ∙ run.2) (section run.1 run.3) run.4 refl key refl refl
   looked key (Some word) run =
-      has_looked same hash fixed small n.seat.id run.1 w run.0 (begun (ContainsKey key) (found_of (Some word)) run) v.calls (stays ∙ run.2) (section run.1 run.3) run.4 key word refl refl
+      has_looked same hash fixed small n.seat.id run.1 w run.0 (begun (ContainsKey key) (found_of (Some word)) run) v.calls (stays ∙ run.2) (section run.1 run.3) run.4 refl key word refl refl
 
   pub had_one : (key : K) (found : Option ℕ) (there : Bool) → HasRun same hash (ContainsKey key) (found_of found) v w → there ≡ is_some found → MapHadOne same hash key there c n
   had_one key found there run so = ((found, run, so), subst (HasLooked same hash fixed n.seat.id w key) (sym so) (looked key found run))
@@ -112,7 +112,7 @@ module _ {K V S : Type 0} {h : hashing.Ghosts K} (same : K → K → Bool) (hash
   came_to_have key value replaced (answer, run, so) = (
     (answer, run, so),
     subst (HasInserted same hash fixed n.seat.id w key value) (sym so)
-        (has_inserted same hash fixed small n.seat.id run.1 w run.0 (begun (Insert key value) (outcome_of (Ok answer)) run) v.calls (stays ∙ run.2) (section run.1 run.3) run.4 key value answer refl refl
+        (has_inserted same hash fixed small n.seat.id run.1 w run.0 (begun (Insert key value) (outcome_of (Ok answer)) run) v.calls (stays ∙ run.2) (section run.1 run.3) run.4 refl key value answer refl refl
         is_replaced (λ old new. refl) (λ new. refl)),
   )
 
@@ -124,7 +124,7 @@ module _ {K V S : Type 0} {h : hashing.Ghosts K} (same : K → K → Bool) (hash
     (answer, run, names),
     λ pair lent.
         let one = replaced_one answer (word x) names in
-        has_replaced_pair same hash fixed small n.seat.id run.1 w run.0 (begun (Insert key value) (outcome_of (Ok answer)) run) v.calls (stays ∙ run.2) (section run.1 run.3) run.4 key value (word x) one.0
+        has_replaced_pair same hash fixed small n.seat.id run.1 w run.0 (begun (Insert key value) (outcome_of (Ok answer)) run) v.calls (stays ∙ run.2) (section run.1 run.3) run.4 refl key value (word x) one.0
         pair.0 pair.1 refl (ap (λ (a : Answer). outcome_of {T = Node K V} (Ok a)) one.1) lent.0,
   )
 
@@ -132,7 +132,7 @@ module _ {K V S : Type 0} {h : hashing.Ghosts K} (same : K → K → Bool) (hash
   lacked key value stored (answer, run, so) = (
     (answer, run, so),
     subst (HasLacked same hash fixed n.seat.id w key value) (sym so)
-        (has_tried same hash fixed small n.seat.id run.1 w run.0 (begun (TryToInsert key value) (outcome_of (Ok answer)) run) v.calls (stays ∙ run.2) (section run.1 run.3) run.4 key value answer refl refl
+        (has_tried same hash fixed small n.seat.id run.1 w run.0 (begun (TryToInsert key value) (outcome_of (Ok answer)) run) v.calls (stays ∙ run.2) (section run.1 run.3) run.4 refl key value answer refl refl
         is_put (λ new. refl) (λ word. refl)),
   )
 
@@ -140,7 +140,7 @@ module _ {K V S : Type 0} {h : hashing.Ghosts K} (same : K → K → Bool) (hash
   gave_up key removed (answer, run, so) = (
     (answer, run, so),
     subst (HasGivenUp same hash fixed n.seat.id w key) (sym so)
-        (has_removed same hash fixed small n.seat.id run.1 w run.0 (begun (Remove key) (outcome_of (Ok answer)) run) v.calls (stays ∙ run.2) (section run.1 run.3) run.4 key answer refl refl is_removed
+        (has_removed same hash fixed small n.seat.id run.1 w run.0 (begun (Remove key) (outcome_of (Ok answer)) run) v.calls (stays ∙ run.2) (section run.1 run.3) run.4 refl key answer refl refl is_removed
         (λ word. refl) refl),
   )
 
@@ -148,13 +148,13 @@ module _ {K V S : Type 0} {h : hashing.Ghosts K} (same : K → K → Bool) (hash
   pub gave_up_pair : (key : K) (word : ℕ) (stored : K) (value : V) → HasTakenOut same hash key (Some word) v w → IsPairLent same hash n word (stored, value)
       → HasRemovedPair same hash fixed n.seat.id w key (stored, value)
   gave_up_pair key word stored value (answer, run, names) lent =
-      has_removed_pair same hash fixed small n.seat.id run.1 w run.0 (begun (Remove key) (outcome_of (Ok answer)) run) v.calls (stays ∙ run.2) (section run.1 run.3) run.4 key word stored value refl
+      has_removed_pair same hash fixed small n.seat.id run.1 w run.0 (begun (Remove key) (outcome_of (Ok answer)) run) v.calls (stays ∙ run.2) (section run.1 run.3) run.4 refl key word stored value refl
       (ap (λ (a : Answer). outcome_of {T = Node K V} (Ok a)) (removed_one answer word names)) lent.0
 
   pub one_there : (key : K) (value : V) (word : ℕ) (stored : K) (its : V) → HasOneThere same hash key value word v w → IsPairLent same hash n word (stored, its)
       → HasOne same hash fixed n.seat.id w key value its
   one_there key value word stored its (answer, run, names) lent =
-      has_one same hash fixed small n.seat.id run.1 w run.0 (begun (TryToInsert key value) (outcome_of (Ok answer)) run) v.calls (stays ∙ run.2) (section run.1 run.3) run.4 key value answer word stored its
+      has_one same hash fixed small n.seat.id run.1 w run.0 (begun (TryToInsert key value) (outcome_of (Ok answer)) run) v.calls (stays ∙ run.2) (section run.1 run.3) run.4 refl key value answer word stored its
       refl refl names lent.0
 
   -- so it is of each that is lent by the word that the call names
@@ -169,13 +169,13 @@ module _ {K V S : Type 0} {h : hashing.Ghosts K} (same : K → K → Bool) (hash
   pub gave_up_if : (key : K) (taken : Option ℕ) → HasRemovedIf same hash key taken c n → MapGaveUpIf same hash key taken c n
   gave_up_if key None (answer, run, names) = (
     (answer, run, names),
-    has_kept same hash fixed small n.seat.id run.1 w run.0 (begun (RemoveIf key) (outcome_of (Ok answer)) run) v.calls (stays ∙ run.2) (section run.1 run.3) run.4 key answer refl refl
+    has_kept same hash fixed small n.seat.id run.1 w run.0 (begun (RemoveIf key) (outcome_of (Ok answer)) run) v.calls (stays ∙ run.2) (section run.1 run.3) run.4 refl key answer refl refl
         (λ a. removed_by a ≡ None) (λ word is. absurd (cc is)) names,
   )
   gave_up_if key (Some word) (answer, run, names) = (
     (answer, run, names),
     λ pair lent.
-        has_removed_if_pair same hash fixed small n.seat.id run.1 w run.0 (begun (RemoveIf key) (outcome_of (Ok answer)) run) v.calls (stays ∙ run.2) (section run.1 run.3) run.4 key word pair.0 pair.1 refl
+        has_removed_if_pair same hash fixed small n.seat.id run.1 w run.0 (begun (RemoveIf key) (outcome_of (Ok answer)) run) v.calls (stays ∙ run.2) (section run.1 run.3) run.4 refl key word pair.0 pair.1 refl
         (ap (λ (a : Answer). outcome_of {T = Node K V} (Ok a)) (removed_one answer word names)) lent.0,
   )
 
@@ -183,7 +183,7 @@ module _ {K V S : Type 0} {h : hashing.Ghosts K} (same : K → K → Bool) (hash
   pub one_with : (key : K) (stored : Bool) (word : ℕ) (found : K) (its : V) → HasTriedWith same hash key stored word c n → IsPairLent same hash n word (found, its)
       → HasOneWith same hash fixed n.seat.id w key (found, its)
   one_with key stored word found its (answer, run, so, names) lent =
-      has_one_with same hash fixed small n.seat.id run.1 w run.0 (begun (TryToInsertWith key) (outcome_of (Ok answer)) run) v.calls (stays ∙ run.2) (section run.1 run.3) run.4 key answer word found its refl
+      has_one_with same hash fixed small n.seat.id run.1 w run.0 (begun (TryToInsertWith key) (outcome_of (Ok answer)) run) v.calls (stays ∙ run.2) (section run.1 run.3) run.4 refl key answer word found its refl
       refl names lent.0
 
   pub has_named_with : (key : K) (stored : Bool) (word : ℕ) → HasTriedWith same hash key stored word c n → MapHasNamedWith same hash key stored word c n
@@ -202,13 +202,13 @@ module _ {K V S : Type 0} {h : hashing.Ghosts K} (same : K → K → Bool) (hash
     pub has_computed : (done : ComputedPair T) → HasComputed same hash Is Gives done v w → MapComputed same hash Is Gives done c n
     has_computed done has =
         let key = has.told.0 in let u = has.before in let run = has.told.2.ran in let there = has.told.2.stays in
-        let its : BegunCall K V = record { began = machine_for same hash run.0 run.1 (Compute key); told = outcome_of (Ok has.answer) } in
+        let its : BegunCall K V = record { map = run.0.number; began = machine_for same hash run.0 run.1 (Compute key); told = outcome_of (Ok has.answer) } in
         let within = ap (λ s. section_of s.1 s.0) there.slot ∙ run.3 in (
           has,
           all_told key done has.answer has.so
               (λ became word tells pair lent.
-              has_computed_pair same hash fixed small n.seat.id run.1 w run.0 its u.calls (there.map ∙ run.2) within run.4 became key has.answer word pair.0 pair.1 refl refl tells lent.0)
-              (has_aborted same hash fixed small n.seat.id run.1 w run.0 its u.calls (there.map ∙ run.2) within run.4 key has.answer refl refl IsLeft (λ new is. is) (λ old new is. is) (λ word is. is)),
+              has_computed_pair same hash fixed small n.seat.id run.1 w run.0 its u.calls (there.map ∙ run.2) within run.4 refl became key has.answer word pair.0 pair.1 refl refl tells lent.0)
+              (has_aborted same hash fixed small n.seat.id run.1 w run.0 its u.calls (there.map ∙ run.2) within run.4 refl key has.answer refl refl IsLeft (λ new is. is) (λ old new is. is) (λ word is. is)),
         )
 
     pub has_told : (named : Option ℕ) → HasUpdated same hash Is Gives named v w → MapNamed same hash Is Gives named c n
@@ -217,38 +217,38 @@ module _ {K V S : Type 0} {h : hashing.Ghosts K} (same : K → K → Bool) (hash
   pub not_stored : (key : K) (value : V) (fault : Fault) → HasRun same hash (Insert key value) (outcome_of (Err fault)) v w → WasRefused same hash (Insert key value) fault c n
   not_stored key value fault run = (
     run,
-    has_refused same hash fixed small n.seat.id run.1 w run.0 (begun (Insert key value) (outcome_of (Err fault)) run) v.calls (stays ∙ run.2) (section run.1 run.3) run.4 (Insert key value) refl fault refl refl,
+    has_refused same hash fixed small n.seat.id run.1 w run.0 (begun (Insert key value) (outcome_of (Err fault)) run) v.calls (stays ∙ run.2) (section run.1 run.3) run.4 refl (Insert key value) refl fault refl refl,
   )
 
   pub not_tried : (key : K) (value : V) (fault : Fault) → HasRun same hash (TryToInsert key value) (outcome_of (Err fault)) v w → WasRefused same hash (TryToInsert key value) fault c n
   not_tried key value fault run = (
     run,
-    has_refused same hash fixed small n.seat.id run.1 w run.0 (begun (TryToInsert key value) (outcome_of (Err fault)) run) v.calls (stays ∙ run.2) (section run.1 run.3) run.4 (TryToInsert key value) refl fault refl refl,
+    has_refused same hash fixed small n.seat.id run.1 w run.0 (begun (TryToInsert key value) (outcome_of (Err fault)) run) v.calls (stays ∙ run.2) (section run.1 run.3) run.4 refl (TryToInsert key value) refl fault refl refl,
   )
 
   pub not_removed_if : (key : K) (fault : Fault) → HasRun same hash (RemoveIf key) (outcome_of (Err fault)) v w → WasRefused same hash (RemoveIf key) fault c n
   not_removed_if key fault run = (
     run,
-    has_refused same hash fixed small n.seat.id run.1 w run.0 (begun (RemoveIf key) (outcome_of (Err fault)) run) v.calls (stays ∙ run.2) (section run.1 run.3) run.4 (RemoveIf key) refl fault refl refl,
+    has_refused same hash fixed small n.seat.id run.1 w run.0 (begun (RemoveIf key) (outcome_of (Err fault)) run) v.calls (stays ∙ run.2) (section run.1 run.3) run.4 refl (RemoveIf key) refl fault refl refl,
   )
 
   pub not_made : (key : K) (fault : Fault) → HasRun same hash (TryToInsertWith key) (outcome_of (Err fault)) v w → WasRefused same hash (TryToInsertWith key) fault c n
   not_made key fault run = (
     run,
-    has_refused same hash fixed small n.seat.id run.1 w run.0 (begun (TryToInsertWith key) (outcome_of (Err fault)) run) v.calls (stays ∙ run.2) (section run.1 run.3) run.4 (TryToInsertWith key) refl fault
+    has_refused same hash fixed small n.seat.id run.1 w run.0 (begun (TryToInsertWith key) (outcome_of (Err fault)) run) v.calls (stays ∙ run.2) (section run.1 run.3) run.4 refl (TryToInsertWith key) refl fault
         refl refl,
   )
 
   pub not_removed : (key : K) (fault : Fault) → HasRun same hash (Remove key) (outcome_of (Err fault)) v w → WasRefused same hash (Remove key) fault c n
   not_removed key fault run = (
     run,
-    has_refused same hash fixed small n.seat.id run.1 w run.0 (begun (Remove key) (outcome_of (Err fault)) run) v.calls (stays ∙ run.2) (section run.1 run.3) run.4 (Remove key) refl fault refl refl,
+    has_refused same hash fixed small n.seat.id run.1 w run.0 (begun (Remove key) (outcome_of (Err fault)) run) v.calls (stays ∙ run.2) (section run.1 run.3) run.4 refl (Remove key) refl fault refl refl,
   )
 
   pub counted : (count : ℕ) → HasMeasured same hash count v w → MapCounted same hash count c n
   counted count run = (
     run,
-    has_counted same hash fixed small n.seat.id run.1 w run.0 (begun Count (outcome_of (Ok (said.Count count))) run) v.calls (stays ∙ run.2) (section run.1 run.3) run.4 count refl refl,
+    has_counted same hash fixed small n.seat.id run.1 w run.0 (begun Count (outcome_of (Ok (said.Count count))) run) v.calls (stays ∙ run.2) (section run.1 run.3) run.4 refl count refl refl,
   )
 
   pub looked_empty : (empty : Bool) → HasFoundEmpty same hash empty v w → MapLookedEmpty same hash empty c n
@@ -257,30 +257,30 @@ module _ {K V S : Type 0} {h : hashing.Ghosts K} (same : K → K → Bool) (hash
   pub had_room : (additional : ℕ) → HasReserved same hash additional v w → MapHadRoom same hash additional c n
   had_room additional run = (
     run,
-    has_made_room same hash fixed small n.seat.id run.1 w run.0 (begun (MakeRoom additional) (outcome_of (Ok said.Reserved)) run) v.calls (stays ∙ run.2) (section run.1 run.3) run.4 additional refl refl,
+    has_made_room same hash fixed small n.seat.id run.1 w run.0 (begun (MakeRoom additional) (outcome_of (Ok said.Reserved)) run) v.calls (stays ∙ run.2) (section run.1 run.3) run.4 refl additional refl refl,
   )
 
   pub was_cleared : HasSweptAll same hash v w → MapWasCleared same hash c n
-  was_cleared run = (run, has_cleared same hash fixed small n.seat.id run.1 w run.0 (begun clears (outcome_of (Ok said.Swept)) run) v.calls (stays ∙ run.2) (section run.1 run.3) run.4 refl refl)
+  was_cleared run = (run, has_cleared same hash fixed small n.seat.id run.1 w run.0 (begun clears (outcome_of (Ok said.Swept)) run) v.calls (stays ∙ run.2) (section run.1 run.3) run.4 refl refl refl)
 
   pub no_room : (additional : ℕ) (fault : Fault) → HasRun same hash (MakeRoom additional) (outcome_of (Err fault)) v w → WasRefused same hash (MakeRoom additional) fault c n
   no_room additional fault run = (
     run,
-    has_refused same hash fixed small n.seat.id run.1 w run.0 (begun (MakeRoom additional) (outcome_of (Err fault)) run) v.calls (stays ∙ run.2) (section run.1 run.3) run.4 (MakeRoom additional) refl fault refl refl,
+    has_refused same hash fixed small n.seat.id run.1 w run.0 (begun (MakeRoom additional) (outcome_of (Err fault)) run) v.calls (stays ∙ run.2) (section run.1 run.3) run.4 refl (MakeRoom additional) refl fault refl refl,
   )
 
   pub was_shown : (end : Result Unit Fault) → HasShown same hash end v w → IfOk end (λ _. MapWasShown same hash c n)
-  was_shown (Ok done) run = (run, has_walked same hash fixed small n.seat.id run.1 w run.0 (begun walks (outcome_of (Ok said.Swept)) run) v.calls (stays ∙ run.2) (section run.1 run.3) run.4 refl refl)
+  was_shown (Ok done) run = (run, has_walked same hash fixed small n.seat.id run.1 w run.0 (begun walks (outcome_of (Ok said.Swept)) run) v.calls (stays ∙ run.2) (section run.1 run.3) run.4 refl refl refl)
   was_shown (Err fault) run = tt
 
   pub was_sifted : (end : Result Unit Fault) → HasSifted same hash end v w → IfOk end (λ _. MapWasSifted same hash c n)
-  was_sifted (Ok done) run = (run, has_retained same hash fixed small n.seat.id run.1 w run.0 (begun retains (outcome_of (Ok said.Swept)) run) v.calls (stays ∙ run.2) (section run.1 run.3) run.4 refl refl)
+  was_sifted (Ok done) run = (run, has_retained same hash fixed small n.seat.id run.1 w run.0 (begun retains (outcome_of (Ok said.Swept)) run) v.calls (stays ∙ run.2) (section run.1 run.3) run.4 refl refl refl)
   was_sifted (Err fault) run = tt
 
   pub not_gone : (purpose : Purpose) (end : Result Unit Fault) → HasGone same hash purpose end v w → IfErr end (λ fault. WasRefused same hash (GoOver purpose) fault c n)
   not_gone purpose (Ok done) run = tt
   not_gone purpose (Err fault) run = (
     run,
-    has_refused same hash fixed small n.seat.id run.1 w run.0 (begun (GoOver purpose) (outcome_of (Err fault)) run) v.calls (stays ∙ run.2) (section run.1 run.3) run.4 (GoOver purpose) refl fault refl
+    has_refused same hash fixed small n.seat.id run.1 w run.0 (begun (GoOver purpose) (outcome_of (Err fault)) run) v.calls (stays ∙ run.2) (section run.1 run.3) run.4 refl (GoOver purpose) refl fault refl
         refl,
   )

@@ -30,16 +30,16 @@ module _ {K V S : Type 0} (same : K → K → Bool) (hash : S → K → ℕ) (ke
     missed ran = record {
       ran = ran;
       had_none = λ id.
-          found_none same hash c.blocks.now.words.fixed small id ran.slot ran.knew ran.map (record { began = machine_for same hash ran.map ran.slot (Get key); told = found_of None }) v.calls ran.knew_map
-          ran.knew_section (ran.knew_calls ∙ ran.calls) key refl refl;
+          found_none same hash c.blocks.now.words.fixed small id ran.slot ran.knew ran.map (record { map = ran.map.number; began = machine_for same hash ran.map ran.slot (Get key); told = found_of None }) v.calls ran.knew_map
+          ran.knew_section (ran.knew_calls ∙ ran.calls) refl key refl refl;
     }
 
     lent : (pair : K × V) → HasFoundUnder same hash c.blocks.now.words.fixed key c.seat.id c.seat.view v w pair → HasLentUnder same hash key c v w pair
     lent pair found = let ran = found.ran in record {
       found = found;
       had =
-          found_value same hash c.blocks.now.words.fixed small found.id ran.slot ran.knew ran.map (record { began = machine_for same hash ran.map ran.slot (Get key); told = found_of (Some found.word) }) v.calls
-          ran.knew_map ran.knew_section (ran.knew_calls ∙ ran.calls) key found.word pair.0 pair.1 refl refl found.lent.0;
+          found_value same hash c.blocks.now.words.fixed small found.id ran.slot ran.knew ran.map (record { map = ran.map.number; began = machine_for same hash ran.map ran.slot (Get key); told = found_of (Some found.word) }) v.calls
+          ran.knew_map ran.knew_section (ran.knew_calls ∙ ran.calls) refl key found.word pair.0 pair.1 refl refl found.lent.0;
     }
 
     -- what it was lent, or that it was lent nothing

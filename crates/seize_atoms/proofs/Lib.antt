@@ -3,3 +3,4 @@ pub mod Lives
 pub mod Claimed
 pub mod Allowed
 pub mod Asked
+pub mod Sending

@@ -30,15 +30,17 @@ impl<T, R: Rule<T>> StripWords<T, R> {
         errand.run(seat)
     }
 
-    /// Sends a seat on an errand for which another one is lent: as long as that runs the other one takes no step.
-    pub fn errand_with<E: Charge<T, R>>(
+    /// Sends a seat on an errand for which two others are lent, or one twice: as long as that runs they take no step.
+    pub fn errand_with_two<E: Charge<T, R>>(
         &self,
         seat: &mut Seat<T, R>,
-        lent: &Seat<T, R>,
+        one: &Seat<T, R>,
+        other: &Seat<T, R>,
         errand: E,
     ) -> E::Answer
-        requires { (seat.old.base ≡ self.now.id.views_name) × (lent.now.base ≡ self.now.id.views_name) × (seat.old.away ≡ None)
-            × E.asks errand seat.old.base lent.now.id lent.now.view seat.old.view
+        requires { (seat.old.base ≡ self.now.id.views_name) × (one.now.base ≡ self.now.id.views_name) × (other.now.base ≡ self.now.id.views_name)
+            × (seat.old.away ≡ None)
+            × E.asks errand seat.old.base one.now.id one.now.view other.now.id other.now.view seat.old.view
             × ((answer : E.Answer) (w : R.View) → E.did errand seat.old.view answer w → R.rests w) }
         ensures { (seat.new.base ≡ seat.old.base) × (seat.new.id ≡ seat.old.id) × (seat.new.away ≡ None)
             × E.did errand seat.old.view result seat.new.view }
@@ -46,9 +48,10 @@ impl<T, R: Rule<T>> StripWords<T, R> {
         self.charged(seat, errand)
     }
 
-    // The steps of an errand that is lent another seat.
+    // The steps of an errand that is lent two other seats.
     fn charged<E: Charge<T, R>>(&self, seat: &mut Seat<T, R>, errand: E) -> E::Answer
-        requires { (lent : ℕ) × (u : R.View) × Lends seat.old.away lent × E.asks errand seat.old.base lent u seat.old.view }
+        requires { (one : ℕ) × (u : R.View) × (other : ℕ) × (o : R.View) × Lends seat.old.away one × Lends seat.old.away other
+            × E.asks errand seat.old.base one u other o seat.old.view }
         ensures { (seat.new.base ≡ seat.old.base) × (seat.new.id ≡ seat.old.id) × (seat.new.away ≡ seat.old.away)
             × E.did errand seat.old.view result seat.new.view }
     {

@@ -23,20 +23,21 @@ pub trait Task<T, R: Rule<T>>: Sized {
             × did self seat.old.view result seat.new.view };
 }
 
-/// A course of steps that a seat takes while another one is lent for it, which stays as it is meanwhile.
+/// A course of steps that a seat takes while two others are lent for it, or one twice, which stay as they are meanwhile.
 pub trait Charge<T, R: Rule<T>>: Sized {
     /// What it answers.
     type Answer;
 
-    /// What has to be so as it begins: the name of the memory, the number and the view of the seat that is lent, and the view of the one that takes the steps.
-    ghost asks: { Self → ℕ → ℕ → R.View → R.View → Type 0 };
+    /// What has to be so as it begins: the name of the memory, the number and the view of each seat that is lent, and the view of the one that takes the steps.
+    ghost asks: { Self → ℕ → ℕ → R.View → ℕ → R.View → R.View → Type 0 };
 
     /// The view before it, the answer, and the view after it.
     ghost did: { Self → R.View → Self.Answer → R.View → Type 0 };
 
     /// Takes the steps.
     fn run(self, seat: &mut Seat<T, R>) -> Self::Answer
-        requires { (lent : ℕ) × (u : R.View) × Lends seat.old.away lent × asks self seat.old.base lent u seat.old.view }
+        requires { (one : ℕ) × (u : R.View) × (other : ℕ) × (o : R.View) × Lends seat.old.away one × Lends seat.old.away other
+            × asks self seat.old.base one u other o seat.old.view }
         ensures { (seat.new.base ≡ seat.old.base) × (seat.new.id ≡ seat.old.id) × (seat.new.away ≡ seat.old.away)
             × did self seat.old.view result seat.new.view };
 }

@@ -8,7 +8,7 @@ ghost use Rattle.seize_seats.specs.Seats.Owned.{IsFirst};
 ghost use Rattle.seize_seats.specs.Seats.Lendings.{VisibleTo, VisibleToBoth, IsValueOf, IsValueOfBoth, IsValueBy};
 
 use crate::access::{Adds, Exchanges, Loads, Sets, Stores, Swaps};
-use crate::errand::{Charged, Errand, ErrandWith, Sent};
+use crate::errand::{Charged, Errand, ErrandWith, ErrandWithTwo, Sent, Single};
 use seize_atoms::{Lesson, Meeting, Rule, Seat, StripWords, Turn};
 use seize_seats::{Doors, Kept, Laid, Piece, ValuePlaces, give_words, lay_words};
 use seize_words::At;
@@ -123,9 +123,31 @@ impl<T, R: Rule<T>> Blocks<T, R> {
         ensures home { seat.new.away ≡ None }
         ensures did { E.did errand self.now.words.fixed seat.old.view result seat.new.view }
     {
-        self.words.errand_with(
+        self.errand_with_two(seat, lent, lent, Single { errand })
+    }
+
+    /// Sends a seat on an errand for which two others are lent, or one twice: as long as that runs they take no step, and what is lent by them stays. It ends
+    /// where the seat rests.
+    pub fn errand_with_two<E: ErrandWithTwo<T, R>>(
+        &self,
+        seat: &mut Seat<T, R>,
+        one: &Seat<T, R>,
+        other: &Seat<T, R>,
+        errand: E,
+    ) -> E::Answer
+        requires own { (seat.old.base ≡ self.now.words.id.views_name) × (one.now.base ≡ self.now.words.id.views_name)
+            × (other.now.base ≡ self.now.words.id.views_name) }
+        requires home { seat.old.away ≡ None }
+        requires asks { E.asks errand seat.old.base self.now.words.fixed one.now.id one.now.view other.now.id other.now.view seat.old.view }
+        requires ends { (answer : E.Answer) (w : R.View) → E.did errand self.now.words.fixed seat.old.view answer w → R.rests w }
+        ensures same { (seat.new.base ≡ seat.old.base) × (seat.new.id ≡ seat.old.id) }
+        ensures home { seat.new.away ≡ None }
+        ensures did { E.did errand self.now.words.fixed seat.old.view result seat.new.view }
+    {
+        self.words.errand_with_two(
             seat,
-            lent,
+            one,
+            other,
             Charged {
                 blocks: self,
                 errand,

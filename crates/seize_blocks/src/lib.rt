@@ -14,7 +14,7 @@ mod reaching;
 mod rooms;
 
 pub use blocks::Blocks;
-pub use errand::{Errand, ErrandWith};
+pub use errand::{Errand, ErrandWith, ErrandWithTwo};
 pub use home::Home;
 pub use part::Place;
 pub use seize_atoms::{Bequest, Lesson, Meeting, Rule, Seat, StripWords, Turn};

@@ -1,7 +1,7 @@
 -- A seat leans on one that is within its section, looks a key up there, and comes back: that it may, and what that has come to.
 use Rattle.std.specs.Prelude.{List, Option, Some, None, IfSome, IfNone, ◌∷◌}
-use Rattle.std.proofs.Common.{◌≡◌, ℕ, Bool, true, sym, subst, ap, ◌∙◌}
-use Rattle.threads_errands.specs.Given.ViewsBegun.{machine_for, shown_map}
+use Rattle.std.proofs.Common.{◌≡◌, ◌⊎◌, ℕ, Bool, inl, inr, true, sym, subst, ap, ◌∙◌}
+use Rattle.threads_errands.specs.Given.ViewsBegun.{leaning, machine_for, shown_map}
 use Rattle.threads_errands.specs.Given.ActsActs.{Wanted, Get}
 use Rattle.papaya_raw.specs.declared.machines.progress.Progress.{Progress}
 use Rattle.map_machines.specs.declared.lookup.Lookup.{Lookup}
@@ -15,7 +15,7 @@ use Rattle.map_tables.specs.declared.node.Node.TheVariants.{Pair}
 use Rattle.threads_errands.specs.Given.ViewsLooks.{shown_in}
 use Rattle.threads_errands.specs.Given.ViewsNotes.{SeatIsQuiescent}
 use Rattle.threads_errands.specs.Given.ViewsPromises.{LeaningsBegin}
-use Rattle.threads_errands.specs.Given.ViewsRule.{Holds, KeepsFor, section_of}
+use Rattle.threads_errands.specs.Given.ViewsRule.{Holds, IsBy, KeepsFor, Leans, LeansOn, section_of}
 use Rattle.threads_errands.specs.Given.ViewsDeclared.view.Map.{Map}
 use Rattle.threads_errands.specs.Given.ViewsDeclared.view.BegunCall.{BegunCall}
 use Rattle.threads_errands.specs.Given.ViewsDeclared.view.View.{View}
@@ -31,6 +31,11 @@ module _ {K V S : Type 0} (same : K → K → Bool) (hash : S → K → ℕ) (fi
       let inside = own_inside u may.slot lone may.inside in
       let g = law fixed i j may.slot v u back.rests back.lone back.free inside s h at_i at_j ne in
       (g.0, g.1, g.2, g.3, (may.slot, inside, g.4))
+
+-- who has come to lean on another one, or on none, leans on that one, or on whom it leant
+pub leans_so : {K V S : Type 0} (v w : View K V S) (under : Option (ℕ × ℕ)) (n : ℕ) {X : Type 0} → w ≡ leaning v under → (LeansOn under n → X) → Leans w n → Leans v n ⊎ X
+leans_so {K} {V} {S} v w under n is lent (inl leans) = inr (lent (subst (λ (x : View K V S). LeansOn x.under n) is leans))
+leans_so {K} {V} {S} v w under n is lent (inr leans) = inl (inr (subst (λ (x : View K V S). IsBy x.by n) is leans))
 
 -- the key of a pair
 abbrev key_in : {K V : Type 0} → K → Option (Node K V) → K
@@ -72,10 +77,10 @@ module _ {K V S : Type 0} (hash : S → K → ℕ) (key : K) (lookup : Lookup) (
       inside = may.inside ∙ sym leant_in ∙ ran.3;
       calls =
           ap (λ (x : View K V S). x.calls) comes ∙ ran.4
-          ∙ ap (λ (x : View K V S). record { began = machine_for same hash ran.0 ran.1 wanted; told = told } ∷ x.calls) begins.2;
+          ∙ ap (λ (x : View K V S). record { map = ran.0.number; began = machine_for same hash ran.0 ran.1 wanted; told = told } ∷ x.calls) begins.2;
       knew = f;
       knew_map = stays.map ∙ ran.2;
-      knew_section = ap (λ (p : SlotView (Node K V) × Option (ℕ × ℕ)). section_of p.1 p.0) stays.slot ∙ ran.3;
+      knew_section = ap (λ (p : (SlotView (Node K V) × Option (ℕ × ℕ)) × Option ℕ). section_of p.0.1 p.0.0) stays.slot ∙ ran.3;
       knew_calls = sym (ap (λ (x : View K V S). x.calls) comes);
     }
 
@@ -100,16 +105,17 @@ module _ {K V S : Type 0} (hash : S → K → ℕ) (key : K) (lookup : Lookup) (
   -- it comes back with nothing under way
   pub comes_back : (same : K → K → Bool) (found : Option ℕ) (f w : View K V S) → IsBack v → HasFound same hash key found m f → LeansNoMore f w → IsBack w
   comes_back same found f w back has comes = record {
-    rests = ap (λ (x : View K V S). x.slot) comes ∙ ap (λ (p : SlotView (Node K V) × Option (ℕ × ℕ)). p.0) has.stays.slot ∙ ap (λ (x : View K V S). x.slot) begins.2 ∙ back.rests;
+    rests = ap (λ (x : View K V S). x.slot) comes ∙ ap (λ (p : (SlotView (Node K V) × Option (ℕ × ℕ)) × Option ℕ). p.0.0) has.stays.slot ∙ ap (λ (x : View K V S). x.slot) begins.2 ∙ back.rests;
     free = ap (λ (x : View K V S). x.work) comes ∙ has.looked.free;
     lone = ap (λ (x : View K V S). x.under) comes;
+    good = ap (λ (x : View K V S). x.by) comes ∙ ap (λ (p : (SlotView (Node K V) × Option (ℕ × ℕ)) × Option ℕ). p.1) has.stays.slot ∙ ap (λ (x : View K V S). x.by) begins.2 ∙ back.good;
   }
 
   -- before that it stands where it did
   pub stands_under : (same : K → K → Bool) (found : Option ℕ) (f : View K V S) → HasFound same hash key found m f → (f.under ≡ Some (n, begins.0)) × (f.slot ≡ v.slot)
   stands_under same found f has = (
-    ap (λ (p : SlotView (Node K V) × Option (ℕ × ℕ)). p.1) has.stays.slot ∙ ap (λ (x : View K V S). x.under) begins.2,
-    ap (λ (p : SlotView (Node K V) × Option (ℕ × ℕ)). p.0) has.stays.slot ∙ ap (λ (x : View K V S). x.slot) begins.2,
+    ap (λ (p : (SlotView (Node K V) × Option (ℕ × ℕ)) × Option ℕ). p.0.1) has.stays.slot ∙ ap (λ (x : View K V S). x.under) begins.2,
+    ap (λ (p : (SlotView (Node K V) × Option (ℕ × ℕ)) × Option ℕ). p.0.0) has.stays.slot ∙ ap (λ (x : View K V S). x.slot) begins.2,
   )
 
 module _ {K V S : Type 0} (same : K → K → Bool) (hash : S → K → ℕ) (fixed : Fixed) (key : K) (n : ℕ) (u v p w : View K V S) (calls : v.calls ≡ p.calls) where
@@ -120,7 +126,7 @@ module _ {K V S : Type 0} (same : K → K → Bool) (hash : S → K → ℕ) (fi
     slot = ran.slot;
     knows = ran.knows;
     inside = ran.inside;
-    calls = ran.calls ∙ ap (λ (l : List (BegunCall K V)). record { began = machine_for same hash ran.map ran.slot wanted; told = told } ∷ l) calls;
+    calls = ran.calls ∙ ap (λ (l : List (BegunCall K V)). record { map = ran.map.number; began = machine_for same hash ran.map ran.slot wanted; told = told } ∷ l) calls;
     knew = ran.knew;
     knew_map = ran.knew_map;
     knew_section = ran.knew_section;
@@ -147,11 +153,12 @@ module _ {K V S : Type 0} (same : K → K → Bool) (hash : S → K → ℕ) (fi
 module _ {K V S : Type 0} where
   -- who has nothing under way, and leans on nobody, rests, and still does so once it has learnt a map
   pub back_rests : (w : View K V S) → IsBack w → SeatIsQuiescent w
-  back_rests w back = rests_so w Rests back.lone back.rests back.free tt
+  back_rests w back = rests_so w Rests back.lone back.good back.rests back.free tt
 
   pub still_back : (v w : View K V S) (map : Map S) → w ≡ shown_map v map → IsBack v → IsBack w
   still_back v w map e back = record {
     rests = ap (λ (x : View K V S). x.slot) e ∙ back.rests;
     free = ap (λ (x : View K V S). x.work) e ∙ back.free;
     lone = ap (λ (x : View K V S). x.under) e ∙ back.lone;
+    good = ap (λ (x : View K V S). x.by) e;
   }

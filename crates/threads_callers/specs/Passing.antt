@@ -18,11 +18,12 @@ use Rattle.threads_errands.specs.Given.ViewsDeclared.view.SeatWork.TheVariants.{
 use Rattle.threads_errands.specs.Given.ErrandsLooking.{found_of}
 
 module _ {K V S : Type 0} where
-  -- it has nothing under way, holds no slot, and leans on nobody
+  -- it has nothing under way, holds no slot, and leans on nobody, nor on the owner of a map
   pub record IsBack (v : View K V S) : Type 0 where
     pub rests : v.slot ≡ Rests
     pub free : v.work ≡ Nothing
     pub lone : v.under ≡ None
+    pub good : v.by ≡ None
 
   -- it leans on the seat of this number, which is within its section
   abbrev pub BeginsUnder : View K V S → ℕ → View K V S → View K V S → Type 0
@@ -39,7 +40,7 @@ module _ {K V S : Type 0} where
     pub slot : ℕ
     pub knows : u.map ≡ Some map
     pub inside : section_of u.under u.slot ≡ Some slot
-    pub calls : w.calls ≡ record { began = machine_for same hash map slot wanted; told = told } ∷ v.calls
+    pub calls : w.calls ≡ record { map = map.number; began = machine_for same hash map slot wanted; told = told } ∷ v.calls
     pub knew : View K V S
     pub knew_map : knew.map ≡ Some map
     pub knew_section : section_of knew.under knew.slot ≡ Some slot

@@ -18,7 +18,7 @@ known_by v = known_as v.map
 
 -- one that has just come, to which this map was handed on
 abbrev pub come_to : {K V S : Type 0} → Option (Map S) → View K V S
-come_to map = record { slot = Rests; under = None; map = map; work = Nothing; looks = []; held = []; began = NotYet; calls = [] }
+come_to map = record { slot = Rests; under = None; map = map; by = None; own = None; work = Nothing; looks = []; held = []; began = NotYet; calls = [] }
 
 module _ {K V S : Type 0} where
   -- it comes to know the map that the other one knows

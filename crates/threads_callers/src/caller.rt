@@ -27,6 +27,7 @@ pub struct MapCaller<'a, K: Eq, V, S: Hashes<K>> {
     ghost own: { seat.base ≡ blocks.now.words.id.views_name },
     ghost home: { is_home seat.away ≡ true },
     ghost lone: { seat.view.under ≡ None },
+    ghost good: { seat.view.by ≡ None },
 }
 
 impl<'a, K: Eq, V, S: Hashes<K>> MapCaller<'a, K, V, S> {

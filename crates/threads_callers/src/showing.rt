@@ -1,5 +1,5 @@
 //! A seat that knows a map hands it on to one more, which learns it.
-ghost use Rattle.std.specs.Prelude.{◌≡◌, IsSome, true};
+ghost use Rattle.std.specs.Prelude.{◌≡◌, IsSome, None, true};
 ghost use Rattle.threads_callers.specs.Standing.{come_to, known_by};
 ghost use Rattle.seize_callers.specs.Kept.{is_home};
 
@@ -24,6 +24,7 @@ pub fn newcomer<K: Eq, V, S: Hashes<K>>(
 ) -> Seat<Node<K, V>, OfMaps<S>>
     requires own { seat.now.base ≡ blocks.now.words.id.views_name }
     requires knows { IsSome (known_by seat.now.view) }
+    requires good { seat.now.view.by ≡ None }
     ensures own { result.base ≡ blocks.now.words.id.views_name }
     ensures home { is_home result.away ≡ true }
     ensures shown { result.view ≡ come_to seat.now.view.map }

@@ -1,6 +1,6 @@
 -- A call whose code is ahead of its machine: turns lead to one point that makes an operation, and the seat may take them, or those with which the call ends.
 use Rattle.std.specs.Prelude.{Option, None, List}
-use Rattle.std.proofs.Common.{◌≡◌, ℕ, Bool, refl, sym, subst, ap, ◌∙◌}
+use Rattle.std.proofs.Common.{◌≡◌, ℕ, Bool, inl, inr, refl, sym, subst, ap, ◌∙◌}
 use Rattle.seize_words.specs.OneMemory.Op.{Op}
 use Rattle.seize_words.specs.OneMemory.Plan.{Plan, Turn, Do, Now, Seeing, Sure, plan_as}
 use Rattle.seize_blocks.specs.Given.SeizeSeatsState.{Turns}
@@ -22,7 +22,7 @@ use Rattle.papaya_raw.specs.declared.machines.progress.Progress.TheVariants as p
 use Rattle.papaya_raw.specs.Progress.{of_called}
 use Rattle.seize_words.proofs.General.{same_some}
 use Rattle.threads_steps.specs.Given.ViewsLooks.{shown_in, TurnsTo}
-use Rattle.threads_steps.specs.Given.ViewsRule.{Holds, KeepsFor, Leans, LeansOn, stand_of}
+use Rattle.threads_steps.specs.Given.ViewsRule.{Holds, KeepsFor, IsBy, Leans, LeansOn, stand_of}
 use Rattle.threads_steps.specs.Given.ViewsTold.{call_after, called, newest_progress, turned}
 use Rattle.threads_steps.specs.Given.ViewsDeclared.view.Map.{Map}
 use Rattle.threads_steps.specs.Given.ViewsDeclared.view.View.{View}
@@ -124,7 +124,8 @@ module _ {K V S : Type 0} where
 
   -- and leans on whom it leant on
   pub leans_still : (v w : View K V S) → StaysThere v w → (n : ℕ) → Leans w n → Leans v n
-  leans_still v w stays n leans = subst (λ (u : Option (ℕ × ℕ)). LeansOn u n) (ap (λ (s : SlotView (Node K V) × Option (ℕ × ℕ)). s.1) stays.slot) leans
+  leans_still v w stays n (inl leans) = inl (subst (λ (u : Option (ℕ × ℕ)). LeansOn u n) (ap (λ (s : (SlotView (Node K V) × Option (ℕ × ℕ)) × Option ℕ). s.0.1) stays.slot) leans)
+  leans_still v w stays n (inr leans) = inr (subst (λ (o : Option ℕ). IsBy o n) (ap (λ (s : (SlotView (Node K V) × Option (ℕ × ℕ)) × Option ℕ). s.1) stays.slot) leans)
 
   pub works_still : (hasher : S) (machine next : Machine K V K) (v w : View K V S) → Works hasher machine v → StaysThere v w → w.work ≡ Calls next → Works hasher next w
   works_still hasher machine next v w at stays works =

@@ -1,4 +1,3 @@
-pub mod CallKinds
 pub mod Views
 pub mod Errands
 mod Samples

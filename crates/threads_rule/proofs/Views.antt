@@ -29,8 +29,11 @@ pub mod Held
 pub mod Begins
 pub mod Handing
 pub mod Leanings
+pub mod Loans
 pub mod Keeping
 pub mod Makings
+mod Taking
+pub mod Endings
 pub mod RowFits
 pub mod RowSteps
 pub mod RowBegins

@@ -1,7 +1,7 @@
 //! What those know that share the memory of maps.
 use map_machines::NewMap;
 use map_tables::{Node, Setting};
-use papaya_raw::machines::{Machine, Progress};
+use papaya_raw::machines::{EndMap, Machine, Progress};
 use std::collections::LinkedList;
 
 /// What a seat knows.
@@ -10,8 +10,12 @@ pub struct View<K, V, S> {
     pub slot: seize_views::SlotView<Node<K, V>>,
     /// The seat that it leans on and the slot of that one, if it leans on one: it holds no slot then, and has calls under way within the section of that one.
     pub under: Option<(u64, u64)>,
-    /// The map that it knows, if it knows one.
+    /// The map that it knows, if it knows one: it stands, and is nobody's own, or this seat leans on the one that owns it.
     pub map: Option<Map<S>>,
+    /// The seat that owns that map, on which it leans, if it leans on one.
+    pub by: Option<u64>,
+    /// The map that is its own, if it has one: it stands until this seat ends it.
+    pub own: Option<Map<S>>,
     /// What it has under way.
     pub work: SeatWork<K, V, S>,
     /// The blocks that its last step looks at after its operation, with their values.
@@ -26,6 +30,8 @@ pub struct View<K, V, S> {
 
 /// A call that a seat has begun.
 pub struct BegunCall<K, V> {
+    /// The number of its map.
+    pub map: u64,
     /// As it began.
     pub began: Machine<K, V>,
     /// What its last step has told: what it has answered, once it has ended.
@@ -48,6 +54,8 @@ pub enum SeatWork<K, V, S> {
     Nothing,
     /// A call on the map that it knows, within the section of its slot.
     Calls(Machine<K, V>),
-    /// It makes the map of this number, with this hasher, and holds no slot.
-    Makes(u64, S, NewMap),
+    /// It makes the map of this number, with this hasher, for itself or for good, and holds no slot.
+    Makes(bool, u64, S, NewMap),
+    /// It ends the map that was its own, and holds no slot.
+    Ends(EndMap),
 }

@@ -31,7 +31,7 @@ use Rattle.threads_rule.specs.Views.Told.{MayCome, call_after, called, newest_pr
 use Rattle.threads_rule.specs.declared.view.BegunCall.{BegunCall}
 use Rattle.threads_rule.specs.declared.view.Map.{Map}
 use Rattle.threads_rule.specs.declared.view.SeatWork.{SeatWork}
-use Rattle.threads_rule.specs.declared.view.SeatWork.TheVariants.{Nothing, Calls, Makes}
+use Rattle.threads_rule.specs.declared.view.SeatWork.TheVariants.{Nothing, Calls, Makes, Ends}
 use Rattle.threads_rule.specs.declared.view.View.{View}
 use Rattle.threads_steps.specs.Asking.{HasAsked, HasGone, WasReplied}
 use Rattle.threads_steps.specs.Steps.{HasStepped}
@@ -72,7 +72,8 @@ module _ {K V S : Type 0} where
   OfKind Nothing = Unit {0}
   OfKind (Calls (kinds.Key c)) = IsMaking c
   OfKind (Calls machine) = ⊥
-  OfKind (Makes m hasher opening) = ⊥
+  OfKind (Makes own m hasher opening) = ⊥
+  OfKind (Ends machine) = ⊥
 
   pub record Making (v : View K V S) : Type 0 where
     pub of : OfKind v.work
@@ -106,8 +107,10 @@ module _ {K V S : Type 0} where
     by_step v (Some map) (Calls (kinds.Reserve r)) op out w of newest is = absurd of
     by_step v (Some map) (Calls (kinds.Sweep r)) op out w of newest is = absurd of
     by_step v (Some map) (Calls (kinds.Count r)) op out w of newest is = absurd of
-    by_step v None (Makes m hasher opening) op out w of newest is = absurd of
-    by_step v (Some map) (Makes m hasher opening) op out w of newest is = absurd of
+    by_step v None (Makes own m hasher opening) op out w of newest is = absurd of
+    by_step v (Some map) (Makes own m hasher opening) op out w of newest is = absurd of
+    by_step v None (Ends machine) op out w of newest is = absurd of
+    by_step v (Some map) (Ends machine) op out w of newest is = absurd of
 
     by_turn : (v : View K V S) (map : Option (Map S)) (work : SeatWork K V S) (w : View K V S) → OfKind work → turned_by same hash v map work w → Making w
     by_turn v None Nothing w of is = absurd is
@@ -117,8 +120,10 @@ module _ {K V S : Type 0} where
     by_turn v (Some map) (Calls (kinds.Reserve r)) w of is = absurd of
     by_turn v (Some map) (Calls (kinds.Sweep r)) w of is = absurd of
     by_turn v (Some map) (Calls (kinds.Count r)) w of is = absurd of
-    by_turn v None (Makes m hasher opening) w of is = absurd of
-    by_turn v (Some map) (Makes m hasher opening) w of is = absurd of
+    by_turn v None (Makes own m hasher opening) w of is = absurd of
+    by_turn v (Some map) (Makes own m hasher opening) w of is = absurd of
+    by_turn v None (Ends machine) w of is = absurd of
+    by_turn v (Some map) (Ends machine) w of is = absurd of
 
     -- so it is where it was told something
     told_so : (v : View K V S) (machine : Machine K V K) (told : MachineReply V) → OfKind (Calls machine) → Newest v.calls → Making (replied v machine told)

@@ -20,14 +20,14 @@ use Rattle.seize_callers.specs.Kept.{kept}
 use Rattle.threads_steps.specs.Steps.{HasStepped}
 use Rattle.threads_steps.specs.Made.{CanMake, HasMade, IsSameSeat, shown_of}
 use Rattle.threads_rule.specs.Errands.Calling.{MayStep, StepsTo}
-use Rattle.threads_rule.specs.CallKinds.Leads.{Leads}
-use Rattle.threads_rule.specs.CallKinds.Shows.{ToldAreVisible}
+use Rattle.threads_kinds.specs.CallKinds.Leads.{Leads}
+use Rattle.threads_kinds.specs.CallKinds.Shows.{ToldAreVisible}
 use Rattle.threads_steps.specs.declared.within.Within.{Within}
 use Rattle.threads_steps.proofs.Calls.{can_make, told_shown}
 use Rattle.threads_steps.proofs.Tellings.{turned_so}
-use Rattle.threads_rule.proofs.CallKinds.Machines.{quiet_machine}
-use Rattle.threads_rule.proofs.CallKinds.Plans.{IsAnsweredBy, LeavesValues, answered_by, follows_one}
-use Rattle.threads_rule.proofs.CallKinds.Quiet.{IsQuiet}
+use Rattle.threads_rule.proofs.Errands.Machines.{quiet_machine}
+use Rattle.threads_kinds.proofs.CallKinds.Plans.{IsAnsweredBy, LeavesValues, answered_by, follows_one}
+use Rattle.threads_kinds.proofs.CallKinds.Quiet.{IsQuiet}
 
 module _ {T R : Type 0} where
   pub quiet_leaves : (plan : Plan T R) → IsQuiet plan → LeavesValues plan

@@ -9,7 +9,7 @@ use Rattle.papaya_raw.specs.declared.machines.machine.Machine.{Machine}
 use Rattle.papaya_raw.specs.declared.machines.progress.Progress.{Progress}
 use Rattle.seize_views.specs.Views.Promises.{op_in}
 use Rattle.seize_views.specs.Views.Told.{FollowsBy}
-use Rattle.threads_rule.specs.CallKinds.Shows.{ToldAreVisible}
+use Rattle.threads_kinds.specs.CallKinds.Shows.{ToldAreVisible}
 use Rattle.threads_rule.specs.Views.Looks.{MayFollow}
 use Rattle.threads_rule.specs.Views.Told.{HandsBack, MayCome, called}
 use Rattle.threads_rule.specs.declared.view.Map.{Map}
@@ -18,7 +18,7 @@ use Rattle.threads_rule.proofs.Views.Laws.{calls_go_on}
 use Rattle.threads_steps.specs.Made.{HasAlone, CanMake, HasMade, shown_of}
 use Rattle.threads_steps.specs.declared.within.Within.{Within}
 use Rattle.threads_steps.proofs.Tellings.{told_shown as shown_then}
-use Rattle.threads_rule.proofs.CallKinds.Plans.{LeavesValues, ReplacesNone, leaves_values}
+use Rattle.threads_kinds.proofs.CallKinds.Plans.{LeavesValues, ReplacesNone, leaves_values}
 
 module _ {K V S : Type 0} (same : K → K → Bool) (hash : S → K → ℕ) (c : Within K V S) where
   -- an operation that replaces no value needs no block to itself

@@ -27,7 +27,7 @@ use Rattle.owner_calls.specs.Owned.Owned.{PutsIt}
 use Rattle.owner_calls.proofs.Owned.Owned.ComesBack.{TellsEnd, over_tells}
 use Rattle.owner_calls.proofs.Owned.Owned.HandsBack.{HasPair, HasPairAt, IsOver, KeepsPair, pair_kept}
 use Rattle.threads_rule.specs.Errands.Calling.{IsBack, IsGoing, IsToStore, MachineStores, handed_by, is_put, outcome_of, pair_there}
-use Rattle.threads_rule.proofs.CallKinds.Plans.{ends_as}
+use Rattle.threads_kinds.proofs.CallKinds.Plans.{ends_as}
 
 -- a step whose outcome is turned into another one comes to what that is of
 pub steps_as : {T A B M : Type 0} (f : A → B) (took : M → Op T → Out T → M → Type 0) (shown : M → ℕ → Option T) (m n : M) (plan : Plan T A) (end : B) → Steps took shown m (plan_as f plan) n end

@@ -27,7 +27,7 @@ use Rattle.threads_rule.specs.Errands.Looking.{HasProgressed, LooksFor, LookedSo
 use Rattle.threads_steps.specs.declared.within.Within.{Within}
 use Rattle.threads_steps.proofs.Calls.{can_make, told_shown}
 use Rattle.threads_rule.proofs.Errands.Looking.{TellsSo, tells, is_do, only_reads, is_plain}
-use Rattle.threads_rule.proofs.CallKinds.Plans.{may_by, was_made, op_as, follows_as, follows_one, follows_rest, leaves_as}
+use Rattle.threads_kinds.proofs.CallKinds.Plans.{may_by, was_made, op_as, follows_as, follows_one, follows_rest, leaves_as}
 
 module _ {K V S : Type 0} (same : K → K → Bool) (hash : S → K → ℕ) (c : Within K V S) (key : K) (lookup : Lookup) (is : LooksFor key lookup c.seat.now.view) where
   abbrev standing_here : KeyCall K V K

@@ -1,6 +1,6 @@
 -- A step of the making of a map, of a seat: it may be taken, and the seat knows how far it has come.
-use Rattle.std.specs.Prelude.{Some}
-use Rattle.std.proofs.Common.{◌≡◌, ℕ, Bool, subst, ap, ◌∙◌}
+use Rattle.std.specs.Prelude.{Some, None}
+use Rattle.std.proofs.Common.{◌≡◌, ℕ, Bool, false, subst, ap, ◌∙◌}
 use Rattle.seize_words.specs.OneMemory.Op.{Op, Out}
 use Rattle.seize_words.specs.OneMemory.Plan.{Plan, May, Steps}
 use Rattle.seize.specs.declared.advance.Advance.{Advance}
@@ -14,7 +14,7 @@ use Rattle.seize_views.specs.Views.Told.{FollowsBy}
 use Rattle.seize_views.proofs.Views.Looks.{rest_of}
 use Rattle.threads_rule.specs.Views.Looks.{shown_in}
 use Rattle.threads_rule.specs.Views.Told.{observed_by, made_after}
-use Rattle.threads_rule.specs.Views.Rule.{stand_of}
+use Rattle.threads_rule.specs.Views.Rule.{side_of}
 use Rattle.threads_rule.specs.declared.view.View.{View}
 use Rattle.threads_rule.specs.declared.view.SeatWork.{SeatWork}
 use Rattle.threads_rule.proofs.Views.Laws.{makings_go_on}
@@ -23,7 +23,7 @@ use Rattle.threads_rule.specs.Errands.Making.{MakesMap, MadeSo, KnowsStill, Stay
 use Rattle.threads_steps.specs.declared.within.Within.{Within}
 use Rattle.threads_steps.proofs.Calls.{has_alone}
 use Rattle.threads_rule.proofs.Errands.Making.{GoesEarly, tells, is_do, leaves, is_now}
-use Rattle.threads_rule.proofs.CallKinds.Plans.{may_by, was_made, follows_one, now_plain, now_follows, leaves_values}
+use Rattle.threads_kinds.proofs.CallKinds.Plans.{may_by, was_made, follows_one, now_plain, now_follows, leaves_values}
 
 module _ {K V S : Type 0} (same : K → K → Bool) (hash : S → K → ℕ) (c : Within K V S) (hasher : S) (opening : NewMap) (is : MakesMap hasher opening c.seat.now.view) where
   abbrev plan : Plan (Node K V) (NewMap × Advance Setting)
@@ -32,14 +32,14 @@ module _ {K V S : Type 0} (same : K → K → Bool) (hash : S → K → ℕ) (c 
   makes : (op : Op (Node K V)) → op_in plan ≡ Some op → CanMake same hash c op
   makes op e = record {
     alone = has_alone same hash c op (leaves_values plan op (leaves K V opening opening.stands is.early) e);
-    may = makings_go_on V same hash c.blocks.now.words.fixed c.seat.now.id is.number c.seat.now.view hasher opening op is.works e;
+    may = makings_go_on V same hash c.blocks.now.words.fixed c.seat.now.id is.number c.seat.now.view false hasher opening op is.works e;
   }
 
   -- what is told of it, whatever is shown
   pub record Came (n : Within K V S) (out : Out (Node K V)) : Type 0 where
     pub end : NewMap × Advance Setting
     pub follows : FollowsBy (shown_of n) plan out end
-    pub view : n.seat.now.view ≡ made_after c.seat.now.view is.number hasher n.seat.now.view.looks end.0 end.1
+    pub view : n.seat.now.view ≡ made_after c.seat.now.view false is.number hasher n.seat.now.view.looks end.0 end.1
 
   came : (op : Op (Node K V)) (out : Out (Node K V)) (n : Within K V S) → HasMade same hash c op out n → Came n out
   came op out n made =
@@ -54,30 +54,39 @@ module _ {K V S : Type 0} (same : K → K → Bool) (hash : S → K → ℕ) (c 
       may_by (CanMake same hash) (HasMade same hash) shown_of c plan (is_do K V opening opening.stands is.early) makes
       (λ op out n e made. let k = came op out n made in (k.end, k.follows)) (λ out. now_plain (rest_of plan out) (is_now K V opening opening.stands is.early out))
 
-  so_far : (n : Within K V S) (end : NewMap × Advance Setting) → n.seat.now.view ≡ made_after c.seat.now.view is.number hasher n.seat.now.view.looks end.0 end.1 → GoesEarly end
-      → MadeSo hasher end.0 end.1 n.seat.now.view × KnowsStill end.1 c.seat.now.view n.seat.now.view × (stand_of n.seat.now.view ≡ stand_of c.seat.now.view) × (n.seat.now.view.calls ≡ c.seat.now.view.calls)
+  so_far : (n : Within K V S) (end : NewMap × Advance Setting) → n.seat.now.view ≡ made_after c.seat.now.view false is.number hasher n.seat.now.view.looks end.0 end.1 → GoesEarly end
+      → MadeSo hasher end.0 end.1 n.seat.now.view × KnowsStill end.1 c.seat.now.view n.seat.now.view × (side_of n.seat.now.view ≡ side_of c.seat.now.view) × (n.seat.now.view.calls ≡ c.seat.now.view.calls)
+      × (c.seat.now.view.by ≡ None → n.seat.now.view.by ≡ None)
   so_far n (d, progress.Goes) view early = (
     record { number = is.number; works = ap (λ (v : View K V S). v.work) view; early = early.0; none = early.1 },
     ap (λ (v : View K V S). v.map) view,
-    ap (λ (v : View K V S). stand_of v) view,
+    ap (λ (v : View K V S). side_of v) view,
     ap (λ (v : View K V S). v.calls) view,
+    λ good. ap (λ (v : View K V S). v.by) view ∙ good,
   )
   so_far n (d, progress.Waits) view none = absurd none
   so_far n (d, progress.Done setting) view early = (
     record { number = is.number; free = ap (λ (v : View K V S). v.work) view; knows = ap (λ (v : View K V S). v.map) view },
     tt,
-    ap (λ (v : View K V S). stand_of v) view,
+    ap (λ (v : View K V S). side_of v) view,
     ap (λ (v : View K V S). v.calls) view,
+    λ good. ap (λ (v : View K V S). v.by) view,
   )
-  so_far n (d, progress.Refused fault) view early =
-      (ap (λ (v : View K V S). v.work) view, ap (λ (v : View K V S). v.map) view, ap (λ (v : View K V S). stand_of v) view, ap (λ (v : View K V S). v.calls) view)
+  so_far n (d, progress.Refused fault) view early = (
+    ap (λ (v : View K V S). v.work) view,
+    ap (λ (v : View K V S). v.map) view,
+    ap (λ (v : View K V S). side_of v) view,
+    ap (λ (v : View K V S). v.calls) view,
+    λ good. ap (λ (v : View K V S). v.by) view ∙ good,
+  )
 
   -- what a step has come to
   pub record Got (n : Within K V S) (end : NewMap × Advance Setting) : Type 0 where
     pub made : MadeSo hasher end.0 end.1 n.seat.now.view
     pub map : KnowsStill end.1 c.seat.now.view n.seat.now.view
-    pub slot : stand_of n.seat.now.view ≡ stand_of c.seat.now.view
+    pub slot : side_of n.seat.now.view ≡ side_of c.seat.now.view
     pub calls : n.seat.now.view.calls ≡ c.seat.now.view.calls
+    pub good : c.seat.now.view.by ≡ None → n.seat.now.view.by ≡ None
     pub chosen : StaysChosen opening end.0 end.1
     pub left : GetsOn opening end.0 end.1
     pub seat : IsSameSeat c n
@@ -87,6 +96,6 @@ module _ {K V S : Type 0} (same : K → K → Bool) (hash : S → K → ℕ) (c 
       let k = was_made (CanMake same hash) (HasMade same hash) shown_of c plan n end (is_do K V opening opening.stands is.early) st in
       let t = came k.0 k.1 n k.3 in
       let one : t.end ≡ end = follows_one (shown_of n) plan k.1 t.end end t.follows k.4 in
-      let view = t.view ∙ ap (λ (e : NewMap × Advance Setting). made_after c.seat.now.view is.number hasher n.seat.now.view.looks e.0 e.1) one in
+      let view = t.view ∙ ap (λ (e : NewMap × Advance Setting). made_after c.seat.now.view false is.number hasher n.seat.now.view.looks e.0 e.1) one in
       let so = tells opening is.none (shown_of n) is.early k.0 k.1 end k.2 k.3.fits k.4 in
-      let s = so_far n end view so.0 in record { made = s.0; map = s.1; slot = s.2; calls = s.3; chosen = so.1; left = so.2; seat = k.3.seat }
+      let s = so_far n end view so.0 in record { made = s.0; map = s.1; slot = s.2; calls = s.3; good = s.4; chosen = so.1; left = so.2; seat = k.3.seat }

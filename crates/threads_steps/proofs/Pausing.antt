@@ -26,8 +26,8 @@ use Rattle.threads_rule.specs.declared.view.View.{View}
 use Rattle.threads_rule.specs.declared.view.SeatWork.TheVariants.{Nothing}
 use Rattle.threads_steps.specs.Asking.{HasAnswered, HasGone, IsOfCall, MakingSays, MayTest, NoneSaid, PausedSo, TestSays, WasReplied, makes_pair, removes_if, reply_of, progress_at}
 use Rattle.threads_rule.specs.Errands.Calling.{HasEnded, IsAsking, IsGoing, IsNoQuestion, IsUnderWay, StepOutcome, outcome_of}
-use Rattle.threads_rule.specs.CallKinds.Kinds.{Kind, Stage, IsFit, IsReplied, IsUntold, PairIsVisible, stage_after}
-use Rattle.threads_rule.specs.CallKinds.Shows.{AnsweredAreVisible}
+use Rattle.threads_kinds.specs.CallKinds.Kinds.{Kind, Stage, IsFit, IsReplied, IsUntold, PairIsVisible, stage_after}
+use Rattle.threads_kinds.specs.CallKinds.Shows.{AnsweredAreVisible}
 use Rattle.threads_rule.specs.Errands.Looking.{Begins, HasProgressed, IsOfThem, StaysThere}
 use Rattle.threads_steps.specs.Steps.{HasStepped}
 use Rattle.threads_steps.specs.declared.within.asking.Halt.{Halt}

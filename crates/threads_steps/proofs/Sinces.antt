@@ -21,7 +21,7 @@ use Rattle.threads_steps.proofs.Storings.{Storing, next_storing, stores_it}
 
 module _ {K V : Type 0} where
   -- the pair with which a call began that was to store it
-  pub begun_with_it : (pair : Node K V) (m : Machine K V K) → MachineStores pair m → pair_in (record { began = m; told = untold } ∷ []) ≡ Some pair
+  pub begun_with_it : (pair : Node K V) (m : Machine K V K) → MachineStores pair m → pair_in (record { map = 0; began = m; told = untold } ∷ []) ≡ Some pair
   begun_with_it pair (kinds.Key c) is = is.unmade
   begun_with_it pair (kinds.Reserve r) is = absurd is
   begun_with_it pair (kinds.Sweep s) is = absurd is
@@ -63,7 +63,7 @@ module _ {K V : Type 0} where
 
     since_has : (m : Machine K V K) (back : Option (Node K V)) → Since same hashes pair m back → HasAll m back
     since_has m back (first _ _ is) =
-        record { has = has_it pair m back is; storing = stores_it pair m is; runs = record { began = m; told = untold } ∷ []; its = begun_with_it pair m is }
+        record { has = has_it pair m back is; storing = stores_it pair m is; runs = record { map = 0; began = m; told = untold } ∷ []; its = begun_with_it pair m is }
     since_has m back (further k _ before told s step hands on) = let h = since_has k before s in record {
       has = still_has pair m before told on (next_has k m before told h step hands);
       storing = (next_storing same hashes k (m, told) step h.storing).0;

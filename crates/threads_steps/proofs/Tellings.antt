@@ -8,7 +8,7 @@ use Rattle.papaya_raw.specs.Machine.{machine_plan}
 use Rattle.papaya_raw.specs.declared.machines.machine.Machine.{Machine}
 use Rattle.papaya_raw.specs.declared.machines.progress.Progress.{Progress}
 use Rattle.seize_views.specs.Views.Told.{FollowsBy}
-use Rattle.threads_rule.specs.CallKinds.Shows.{ToldAreVisible}
+use Rattle.threads_kinds.specs.CallKinds.Shows.{ToldAreVisible}
 use Rattle.threads_rule.specs.Views.Looks.{shown_in, MayFollow, TurnsTo}
 use Rattle.threads_rule.specs.Views.Told.{HandsBack, MayCome, told, observed_by, turned, turned_by, called}
 use Rattle.threads_rule.specs.declared.view.Map.{Map}

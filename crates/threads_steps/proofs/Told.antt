@@ -13,8 +13,8 @@ use Rattle.threads_rule.specs.Views.Looks.{shown_in}
 use Rattle.threads_rule.specs.declared.view.View.{View}
 use Rattle.threads_steps.specs.Asking.{AsksWith}
 use Rattle.threads_rule.specs.Errands.Calling.{IsAsking, IsUnderWay, MachineAsks, MachineContinues}
-use Rattle.threads_rule.specs.CallKinds.Kinds.{Kind, Stage, IsFit, stage_after}
-use Rattle.threads_rule.proofs.CallKinds.Telling.{taken}
+use Rattle.threads_kinds.specs.CallKinds.Kinds.{Kind, Stage, IsFit, stage_after}
+use Rattle.threads_kinds.proofs.CallKinds.Telling.{taken}
 
 module _ {K V : Type 0} (k : Kind) (s : Stage) (shown : ℕ → Option (Node K V)) (pair : Option ℕ) (reply : MachineReply V) where
   -- the machine takes what fits

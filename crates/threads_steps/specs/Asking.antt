@@ -27,8 +27,8 @@ use Rattle.threads_rule.specs.Views.Looks.{shown_in}
 use Rattle.threads_rule.specs.declared.view.View.{View}
 use Rattle.threads_rule.specs.declared.view.SeatWork.TheVariants.{Nothing, Calls}
 use Rattle.threads_rule.specs.Errands.Calling.{HasEnded, IsAsking, outcome_of}
-use Rattle.threads_rule.specs.CallKinds.Kinds.{Kind, Stage}
-use Rattle.threads_rule.specs.CallKinds.Shows.{AnsweredAreVisible}
+use Rattle.threads_kinds.specs.CallKinds.Kinds.{Kind, Stage}
+use Rattle.threads_kinds.specs.CallKinds.Shows.{AnsweredAreVisible}
 use Rattle.threads_rule.specs.Errands.Looking.{Begins, HasRun, StaysThere}
 use Rattle.threads_steps.specs.Steps.{HasStepped}
 use Rattle.threads_steps.specs.declared.within.asking.Halt.{Halt}

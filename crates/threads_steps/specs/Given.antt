@@ -2,11 +2,11 @@
 pub use Rattle.map_measures.specs.ByKey.ByKey
 pub use Rattle.owner_calls.specs.Owned.Owned as OwnedOwned
 pub use Rattle.seize_callers.specs.Kept as SeizeCallersKept
-pub use Rattle.threads_rule.specs.CallKinds.Answers as CallKindsAnswers
-pub use Rattle.threads_rule.specs.CallKinds.Kinds as CallKindsKinds
-pub use Rattle.threads_rule.specs.CallKinds.Leads as CallKindsLeads
-pub use Rattle.threads_rule.specs.CallKinds.Shows as CallKindsShows
-pub use Rattle.threads_rule.specs.CallKinds.Sweeps as CallKindsSweeps
+pub use Rattle.threads_kinds.specs.CallKinds.Answers as CallKindsAnswers
+pub use Rattle.threads_kinds.specs.CallKinds.Kinds as CallKindsKinds
+pub use Rattle.threads_kinds.specs.CallKinds.Leads as CallKindsLeads
+pub use Rattle.threads_kinds.specs.CallKinds.Shows as CallKindsShows
+pub use Rattle.threads_kinds.specs.CallKinds.Sweeps as CallKindsSweeps
 pub use Rattle.threads_rule.specs.Errands.Calling as ErrandsCalling
 pub use Rattle.threads_rule.specs.Errands.Counting as ErrandsCounting
 pub use Rattle.threads_rule.specs.Errands.Looking as ErrandsLooking

@@ -7,7 +7,7 @@ use Rattle.threads_rule.specs.Views.Looks.{shown_in}
 use Rattle.threads_rule.specs.Views.Rule.{Holds, KeepsFor}
 use Rattle.threads_rule.specs.Views.Told.{told}
 use Rattle.seize_callers.specs.Kept.{kept}
-use Rattle.threads_rule.specs.CallKinds.Answers.{IsAnswer}
+use Rattle.threads_kinds.specs.CallKinds.Answers.{IsAnswer}
 use Rattle.threads_steps.specs.declared.within.Within.{Within}
 
 module _ {K V S : Type 0} where

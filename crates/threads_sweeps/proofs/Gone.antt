@@ -26,7 +26,7 @@ use Rattle.threads_calls.proofs.Given.ErrandsRuns.{has_run, told_last}
 module _ {K V S : Type 0} where
   -- with this under way in its place
   abbrev with_work : View K V S → SeatWork K V S → View K V S
-  with_work v work = record { slot = v.slot; under = v.under; map = v.map; work = work; looks = []; held = []; began = v.began; calls = v.calls }
+  with_work v work = record { slot = v.slot; under = v.under; map = v.map; by = v.by; own = v.own; work = work; looks = []; held = []; began = v.began; calls = v.calls }
 
   -- one that was asked, or told something, stands where it stood, and its calls are those of before
   pub work_stays : (v w : View K V S) (work : SeatWork K V S) → w ≡ with_work v work → StaysThere v w

@@ -4,7 +4,7 @@ use Rattle.run_shows.specs.Given.SeizeWordsMem.{Mem, Took, value_at}
 use Rattle.run_shows.specs.Given.SeizeWordsOp.{Out}
 use Rattle.run_shows.specs.Given.SeizeWordsPlan.{Plan, Turn, Do, Ends}
 use Rattle.run_shows.specs.Given.SeizeWordsWord.{block_in}
-use Rattle.run_shows.specs.Given.SeizeLaw.{holds}
+use Rattle.run_shows.specs.Given.SeizeLaw.{holds, owner_of}
 use Rattle.run_shows.specs.Given.SeizeWorld.{World, Making}
 use Rattle.run_shows.specs.Given.TablesDeclared.node.Node.{Node}
 use Rattle.run_shows.specs.Given.TablesDeclared.node.Node.TheVariants.{Shards}
@@ -51,7 +51,7 @@ IsOwnOf (kinds.Key c) b = IsToStore c.stands × ((c.own == 0) ≡ false) × (b �
 IsOwnOf _ b = ⊥
 
 module _ {K Q : Type 0} (V : Type 0) (same : K → K → Bool) (asks : Q → K → Bool) (batch_size roots : ℕ) (slot : ℕ → ℕ) where
-  -- The promise: what a step of a call has seen at no row its section holds, or it is the own pair of the call, with which it goes on.
+  -- The promise: what a step of a call has seen at no row its section holds, and it is of the map of the call; or it is the own pair of the call, with which it goes on.
   abbrev pub StepsSeeWhatLasts : Type 0
   StepsSeeWhatLasts =
       (w : World (Node K V)) (maps : ℕ → Option (Standing K)) (calls : ℕ → ℕ → Option (UnderWay K V Q))
@@ -59,7 +59,7 @@ module _ {K Q : Type 0} (V : Type 0) (same : K → K → Bool) (asks : Q → K �
       → EndingsTogether V same asks batch_size roots slot w maps calls makers enders
       → (m : ℕ) (s : Standing K) → maps m ≡ Some s → (i : ℕ) (u : UnderWay K V Q) → calls m i ≡ Some u → (IsAtRow u → ⊥)
       → (m2 : Mem (Node K V)) (machine : Machine K V Q) (told : Progress (Node K V)) (b : ℕ) → HasSeen b w.memory (machine_plan asks same s.hash (machine_of u)) m2 (machine, told)
-      → (holds (slot i) b w.log ≡ true) ⊎ (IsOwnOf machine b × Continues told)
+      → ((holds (slot i) b w.log ≡ true) × (owner_of b w.log ≡ s.setting.counter)) ⊎ (IsOwnOf machine b × Continues told)
 
   -- And the own pair of a call is in the hands of its caller, who has made its block, and not as the counter of a map.
   abbrev pub OwnPairsAreMade : Type 0

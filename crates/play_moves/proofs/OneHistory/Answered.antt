@@ -6,7 +6,6 @@ use Rattle.std.proofs.lemmas.Bool.{cases_eq, eq-eqb, ne_eqb}
 use Rattle.threads_rule.specs.Given.SeizeSeatsState.{State, view_of}
 use Rattle.threads_rule.specs.Given.SeizeViewsDeclared.view.Fixed.{Fixed}
 use Rattle.run_legal.specs.Given.TablesDeclared.node.Node.{Node}
-use Rattle.run_legal.specs.Given.TablesDeclared.setting.Setting.{Setting}
 use Rattle.run_schedules.specs.Given.RawDeclared.machines.answer.KeyAnswer.{KeyAnswer}
 use Rattle.run_schedules.specs.Given.RawDeclared.machines.answer.KeyAnswer.TheVariants as says
 use Rattle.run_schedules.specs.Given.RawDeclared.machines.progress.Answer.TheVariants.{Key}
@@ -15,13 +14,13 @@ use Rattle.run_schedules.specs.Given.RawDeclared.machines.progress.Progress.TheV
 use Rattle.threads_rule.specs.Views.Begun.{machine_for}
 use Rattle.threads_rule.specs.Views.Listed.{Called, calls_of, calls_then, has_progressed, plain, seat_of, seen_of}
 use Rattle.threads_rule.specs.Views.Told.{untold}
-use Rattle.threads_rule.specs.Views.Rule.{MapsWorld, KnowsMap, IsRun, AreRuns, Holds, caller_at, runs_of}
+use Rattle.threads_rule.specs.Views.Rule.{MapsWorld, IsRun, AreRuns, Holds, caller_at, runs_of}
 use Rattle.threads_rule.specs.declared.view.Map.{Map}
 use Rattle.threads_rule.specs.declared.view.BegunCall.{BegunCall}
 use Rattle.threads_rule.specs.declared.view.View.{View}
 use Rattle.threads_rule.proofs.Views.Listed.{its_seat}
 use Rattle.threads_rule.proofs.Views.Numbers.{its_caller}
-use Rattle.run_legal.specs.Given.ScenesScene.{Scene, slot_of}
+use Rattle.run_legal.specs.Given.ScenesScene.{slot_of}
 use Rattle.run_schedules.specs.declared.call.Response.{Response}
 use Rattle.run_schedules.specs.declared.call.Response.TheVariants as answers
 use Rattle.run_schedules.specs.declared.call.Call.TheVariants.{On}
@@ -36,7 +35,6 @@ use Rattle.play_linear.specs.Given.ActsLists.{nothing_done}
 use Rattle.run_schedules.specs.Given.SeizeWordsMem.{Mem}
 use Rattle.run_schedules.specs.Deeds.Deeds.{Entry}
 use Rattle.run_legal.specs.Given.EffectsKnown.{Known}
-use Rattle.run_legal.specs.Given.FinishesMaps.{Standing}
 use Rattle.run_legal.specs.Given.NamedSeen.{kind_of}
 use Rattle.play_linear.specs.Given.PlayedPlay.{State as Played, call_for, first_state, outcome_of, play_all}
 use Rattle.run_legal.specs.Given.ScenesStepping.{has_ended}
@@ -47,7 +45,7 @@ use Rattle.play_moves.specs.OneHistory.Order.{CallsAreInOrder}
 use Rattle.play_moves.proofs.OneHistory.Along.{all_tell}
 use Rattle.play_moves.proofs.OneHistory.Legal.{hashes, own}
 use Rattle.play_moves.proofs.OneHistory.Tells.{HasAnswered, Tells}
-use Rattle.play_moves.proofs.OneHistory.Wanted.{one_root, one_slot, one_wanted}
+use Rattle.play_moves.proofs.OneHistory.Wanted.{one_slot, one_wanted}
 
 module _ {K V : Type 0} (seat : ℕ) where
   abbrev pub IsIts : Called K V → Type 0
@@ -84,15 +82,15 @@ module _ {K V S : Type 0} (seat : ℕ) where
   calls_its [] said calls all = all
   calls_its (doing ∷ doings) [] calls all = all
 
-module _ {K V S : Type 0} (same : K → K → Bool) (hash : S → K → ℕ) (scene : Scene K V) (P Q : Called K V → Type 0) (run : BegunCall K V) (before : List (BegunCall K V)) where
+module _ {K V S : Type 0} (same : K → K → Bool) (hash : S → K → ℕ) (P Q : Called K V → Type 0) (run : BegunCall K V) (before : List (BegunCall K V)) where
   -- the call of the list that a run is
   pub record Found : Type 0 where
     pub one : Called K V
-    pub is : IsRun same hash scene one run
+    pub is : IsRun same hash one run
     pub its : P one
     pub too : Q one
 
-  found : (later : List (BegunCall K V)) (calls : List (Called K V)) → AreRuns same hash scene calls (later ++ run ∷ before) → AllByRecursion P calls → AllByRecursion Q calls → Found
+  found : (later : List (BegunCall K V)) (calls : List (Called K V)) → AreRuns same hash calls (later ++ run ∷ before) → AllByRecursion P calls → AllByRecursion Q calls → Found
   found [] (call ∷ calls) are all more = record { one = call; is = are.0; its = all.0; too = more.0 }
   found (other ∷ later) (call ∷ calls) are all more = found later calls are.1 all.1 more.1
   found [] [] are all more = absurd are
@@ -114,7 +112,7 @@ such known key replies (says.Removed old) (Answered a) (inl so) = absurd so
 such known key replies told _ comes = absurd comes
 
 module _ {K V S : Type 0} (same : K → K → Bool) (hash : S → K → ℕ) (fixed : Fixed) (small : fixed.batch_size < 2 ^ 64) (aborts : ℕ → V) (id t : ℕ) (v : View K V S) (map : Map S) (wanted : Wanted K V)
-    (run : BegunCall K V) (later before : List (BegunCall K V)) (knows : v.map ≡ Some map) (calls_are : v.calls ≡ later ++ run ∷ before) (simple : plain wanted ≡ wanted)
+    (run : BegunCall K V) (later before : List (BegunCall K V)) (knows : v.map ≡ Some map) (calls_are : v.calls ≡ later ++ run ∷ before) (on_it : run.map ≡ map.number) (simple : plain wanted ≡ wanted)
     (began : run.began ≡ machine_for same hash map t wanted) (ended : has_ended run.told ≡ true) (s : State (Node K V) (View K V S) (MapsWorld K V S)) (h : Holds same hash fixed s)
     (at_id : view_of s id ≡ Some v) where
   abbrev calls : List (Called K V)
@@ -127,13 +125,13 @@ module _ {K V S : Type 0} (same : K → K → Bool) (hash : S → K → ℕ) (fi
   tell =
       all_tell V same hash (hashes same hash fixed s h) fixed.batch_size fixed.roots small aborts h.course id s.world.doings h.reached h.led (own same hash fixed s h) h.so.fresh.0 h.so.fresh.2
 
-  pub runs : AreRuns same hash s.world.scene calls (later ++ run ∷ before)
+  pub runs : AreRuns same hash calls (later ++ run ∷ before)
   runs =
-      subst (λ (l : List (BegunCall K V)). AreRuns same hash s.world.scene calls l) calls_are
-      (subst (λ (o : Option (View K V S)). AreRuns same hash s.world.scene calls (runs_of o)) at_id (h.calls id))
+      subst (λ (l : List (BegunCall K V)). AreRuns same hash calls l) calls_are
+      (subst (λ (o : Option (View K V S)). AreRuns same hash calls (runs_of o)) at_id (h.calls id))
 
   -- the call of the list that this is
-  module _ (one : Called K V) (is : IsRun same hash s.world.scene one run) where
+  module _ (one : Called K V) (is : IsRun same hash one run) where
     one_machine : machine_for same hash map t wanted ≡ machine_for same hash is.map (slot_of one.caller) one.wanted
     one_machine = sym began ∙ is.began
 
@@ -145,24 +143,11 @@ module _ {K V S : Type 0} (same : K → K → Bool) (hash : S → K → ℕ) (fi
         ap (λ (a : ℕ). caller_at a t) (sym its) ∙ ap (λ (a : ℕ). caller_at (seat_of one.caller) a) (one_slot same hash map is.map t (slot_of one.caller) wanted one.wanted one_machine)
         ∙ its_caller one.caller
 
-    -- maps that stand have roots of their own
     pub same_map : map.number ≡ one.map
-    same_map = by (cases_eq map.number is.map.number) ∙ is.number
-      where
-        stands : KnowsMap same hash s.world.scene (Some map)
-        stands = subst (λ (o : Option (Map S)). KnowsMap same hash s.world.scene o) knows (h.so.seats id v at_id).map
+    same_map = sym on_it ∙ is.its
 
-        there : (m : ℕ) (r : Standing K) → s.world.scene.maps m ≡ Some r → h.reached.0.0.maps m ≡ Some r
-        there m r here = subst (λ (x : Scene K V). x.maps m ≡ Some r) h.scene here
-
-        by : (map.number ≡ is.map.number) ⊎ (map.number ≢ is.map.number) → map.number ≡ is.map.number
-        by (inl e) = e
-        by (inr ne) =
-            absurd (h.reached.0.1.makings.standing.roots map.number is.map.number stands.0 is.stands.0 ne (there map.number stands.0 stands.1) (there is.map.number is.stands.0 is.stands.1)
-            (ap (λ (x : Setting). x.root) stands.2 ∙ one_root same hash map is.map t (slot_of one.caller) wanted one.wanted one_machine ∙ ap (λ (x : Setting). x.root) (sym is.stands.2)))
-
-  it : Found same hash s.world.scene (HasAnswered same tell.0.history) (IsIts id) run before
-  it = found same hash s.world.scene (HasAnswered same tell.0.history) (IsIts id) run before later calls runs tell.2.answered (calls_its id s.world.doings h.reached.1 [] tt)
+  it : Found same hash (HasAnswered same tell.0.history) (IsIts id) run before
+  it = found same hash (HasAnswered same tell.0.history) (IsIts id) run before later calls runs tell.2.answered (calls_its id s.world.doings h.reached.1 [] tt)
 
   abbrev history : List (Entry K V)
   history = tell.0.history
@@ -209,9 +194,9 @@ module _ {K S : Type 0} (V : Type 0) (same : K → K → Bool) (hash : S → K �
       (told.0, told.1, told.2.got (caller_at id t) (sym (its_seat id t is)))
 
   pub seats_are_answered : SeatsAreAnswered V same hash
-  seats_are_answered fixed small aborts id t v map wanted run later before knows calls_are simple began ended s h at_id =
-      answered same hash fixed small aborts id t v map wanted run later before knows calls_are simple began ended s h at_id
+  seats_are_answered fixed small aborts id t v map wanted run later before knows calls_are on_it simple began ended s h at_id =
+      answered same hash fixed small aborts id t v map wanted run later before knows calls_are on_it simple began ended s h at_id
 
   pub lookups_were_so : LookupsWereSo V same hash
-  lookups_were_so fixed small aborts id t v map key run later before told knows calls_are began tells s h at_id =
-      was_so same hash fixed small aborts id t v map (Get key) run later before knows calls_are refl began (ap has_ended tells) s h at_id key told refl tells
+  lookups_were_so fixed small aborts id t v map key run later before told knows calls_are on_it began tells s h at_id =
+      was_so same hash fixed small aborts id t v map (Get key) run later before knows calls_are on_it refl began (ap has_ended tells) s h at_id key told refl tells

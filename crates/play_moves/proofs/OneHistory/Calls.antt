@@ -134,30 +134,30 @@ module _ {K V : Type 0} (known : Known) (replies : List (Option ℕ × Reply V))
   put key value word _ _ comes is = absurd comes
 
 module _ {K V S : Type 0} (same : K → K → Bool) (hash : S → K → ℕ) (fixed : Fixed) (small : fixed.batch_size < 2 ^ 64) (id t : ℕ) (v : View K V S) (map : Map S) (run : BegunCall K V)
-    (before : List (BegunCall K V)) (knows : v.map ≡ Some map) (section : section_of v.under v.slot ≡ Some t) (calls_are : v.calls ≡ run ∷ before) where
+    (before : List (BegunCall K V)) (knows : v.map ≡ Some map) (section : section_of v.under v.slot ≡ Some t) (calls_are : v.calls ≡ run ∷ before) (on_it : run.map ≡ map.number) where
   -- what was wanted, and has come to its end
   module _ (wanted : Wanted K V) (simple : plain wanted ≡ wanted) (began : run.began ≡ machine_for same hash map t wanted) (ended : has_ended run.told ≡ true) where
     -- in each state
     module _ (aborts : ℕ → V) (s : State (Node K V) (View K V S) (MapsWorld K V S)) (h : Holds same hash fixed s) (at_id : view_of s id ≡ Some v) where
       abbrev pub history : List (Entry K V)
-      history = (tell same hash fixed small aborts id t v map wanted run [] before knows calls_are simple began ended s h at_id).0.history
+      history = (tell same hash fixed small aborts id t v map wanted run [] before knows calls_are on_it simple began ended s h at_id).0.history
 
       its_slot : IsSlot t
       its_slot = subst IsSlot (section_place v.under v.slot t section) (h.so.seats id v at_id).slot
 
-      its_runs : AreRuns same hash s.world.scene (calls_of id s.world.doings h.reached.1 []) (run ∷ before)
-      its_runs = runs same hash fixed small aborts id t v map wanted run [] before knows calls_are simple began ended s h at_id
+      its_runs : AreRuns same hash (calls_of id s.world.doings h.reached.1 []) (run ∷ before)
+      its_runs = runs same hash fixed small aborts id t v map wanted run [] before knows calls_are on_it simple began ended s h at_id
 
       -- the newest call of the list is this one: the newest step of its caller's calls is its end
-      module _ (one : Called K V) (is : IsRun same hash s.world.scene one run) (its : seat_of one.caller ≡ id) where
+      module _ (one : Called K V) (is : IsRun same hash one run) (its : seat_of one.caller ≡ id) where
         caller : caller_at id t ≡ one.caller
-        caller = same_caller same hash fixed small aborts id t v map wanted run [] before knows calls_are simple began ended s h at_id one is its
+        caller = same_caller same hash fixed small aborts id t v map wanted run [] before knows calls_are on_it simple began ended s h at_id one is its
 
         wants : wanted ≡ one.wanted
-        wants = same_wanted same hash fixed small aborts id t v map wanted run [] before knows calls_are simple began ended s h at_id one is
+        wants = same_wanted same hash fixed small aborts id t v map wanted run [] before knows calls_are on_it simple began ended s h at_id one is
 
         on : map.number ≡ one.map
-        on = same_map same hash fixed small aborts id t v map wanted run [] before knows calls_are simple began ended s h at_id one is
+        on = same_map same hash fixed small aborts id t v map wanted run [] before knows calls_are on_it simple began ended s h at_id one is
 
         its_end : (calls : List (Called K V)) → NewestCall (caller_at id t) (HasEndedLast same history) (one ∷ calls) → ByNewest (caller_at id t) (EndsAs same (caller_at id t) map.number wanted run.told) history
         its_end calls last =
@@ -170,9 +170,9 @@ module _ {K V S : Type 0} (same : K → K → Bool) (hash : S → K → ℕ) (fi
       pub ends : ByNewest (caller_at id t) (EndsAs same (caller_at id t) map.number wanted run.told) history
       ends =
           by (calls_of id s.world.doings h.reached.1 []) its_runs (calls_its id s.world.doings h.reached.1 [] tt)
-          ((tell same hash fixed small aborts id t v map wanted run [] before knows calls_are simple began ended s h at_id).2.last (caller_at id t) (sym (its_seat id t its_slot)))
+          ((tell same hash fixed small aborts id t v map wanted run [] before knows calls_are on_it simple began ended s h at_id).2.last (caller_at id t) (sym (its_seat id t its_slot)))
         where
-          by : (calls : List (Called K V)) → AreRuns same hash s.world.scene calls (run ∷ before) → AllByRecursion (IsIts id) calls → NewestCall (caller_at id t) (HasEndedLast same history) calls
+          by : (calls : List (Called K V)) → AreRuns same hash calls (run ∷ before) → AllByRecursion (IsIts id) calls → NewestCall (caller_at id t) (HasEndedLast same history) calls
               → ByNewest (caller_at id t) (EndsAs same (caller_at id t) map.number wanted run.told) history
           by [] are its last = absurd are
           by (one ∷ calls) are its last = its_end one are.0 its.0 calls last
@@ -186,7 +186,7 @@ module _ {K V S : Type 0} (same : K → K → Bool) (hash : S → K → ℕ) (fi
       knows,
       λ aborts s h at_id.
           let legal = histories_are_legal V same hash fixed small aborts s h in
-          let told = tell same hash fixed small aborts id t v map wanted run [] before knows calls_are simple began ended s h at_id in (
+          let told = tell same hash fixed small aborts id t v map wanted run [] before knows calls_are on_it simple began ended s h at_id in (
             legal.0,
             legal.1,
             legal.2,
@@ -230,12 +230,12 @@ module _ {K V S : Type 0} (same : K → K → Bool) (hash : S → K → ℕ) (fi
         seen = h.seen id v at_id (block_in word) (Pair stored value) shown
 
         -- so it is of the newest call of the list
-        by : (calls : List (Called K V)) → AreRuns same hash s.world.scene calls (run ∷ before) → IsNewest i calls → IfNewest same i (HasEndedIn same then_ seen.0) calls
+        by : (calls : List (Called K V)) → AreRuns same hash calls (run ∷ before) → IsNewest i calls → IfNewest same i (HasEndedIn same then_ seen.0) calls
             → ByNewest (caller_at id t) (EndsIn same seen.0 (caller_at id t) map.number wanted run.told) then_
         by [] are newest last = absurd are
         by (one ∷ earlier) are newest last =
-            let wanted_is = same_wanted same hash fixed small aborts id t v map wanted run [] before knows calls_are simple began ended s h at_id one are.0 in
-            let map_is = same_map same hash fixed small aborts id t v map wanted run [] before knows calls_are simple began ended s h at_id one are.0 in
+            let wanted_is = same_wanted same hash fixed small aborts id t v map wanted run [] before knows calls_are on_it simple began ended s h at_id one are.0 in
+            let map_is = same_map same hash fixed small aborts id t v map wanted run [] before knows calls_are on_it simple began ended s h at_id one are.0 in
             subst (λ (c : ℕ). ByNewest c (EndsIn same seen.0 c map.number wanted run.told) then_) (newest ∙ ap (caller_at id) (section_place v.under v.slot t section))
             (subst (λ (m : ℕ). ByNewest one.caller (EndsIn same seen.0 one.caller m wanted run.told) then_) (sym map_is)
             (subst (λ (w : Wanted K V). ByNewest one.caller (EndsIn same seen.0 one.caller one.map w run.told) then_) (sym wanted_is)
@@ -245,7 +245,7 @@ module _ {K V S : Type 0} (same : K → K → Bool) (hash : S → K → ℕ) (fi
         ends_in : ByNewest (caller_at id t) (EndsIn same seen.0 (caller_at id t) map.number wanted run.told) then_
         ends_in =
             by (calls_of id s.world.doings h.reached.1 []) (its_runs aborts s h at_id) seen.2
-            ((tell same hash fixed small aborts id t v map wanted run [] before knows calls_are simple began ended s h at_id).2.found i seen.0
+            ((tell same hash fixed small aborts id t v map wanted run [] before knows calls_are on_it simple began ended s h at_id).2.found i seen.0
             (sym (its_seat id (acts_in v.under v.slot) (h.so.seats id v at_id).slot)) seen.1)
 
       pub by_seen : (So : ℕ → ℕ → List (Entry K V) → Entry K V → Type 0)

@@ -202,7 +202,7 @@ module _ {K V : Type 0} (known : Known) (replies : List (Option ℕ × Reply V))
   aborted_so key _ _ comes Left none other gone left = absurd comes
 
 module _ {K V S : Type 0} (same : K → K → Bool) (hash : S → K → ℕ) (fixed : Fixed) (small : fixed.batch_size < 2 ^ 64) (id t : ℕ) (v : View K V S) (map : Map S) (run : BegunCall K V)
-    (before : List (BegunCall K V)) (knows : v.map ≡ Some map) (section : section_of v.under v.slot ≡ Some t) (calls_are : v.calls ≡ run ∷ before) where
+    (before : List (BegunCall K V)) (knows : v.map ≡ Some map) (section : section_of v.under v.slot ≡ Some t) (calls_are : v.calls ≡ run ∷ before) (on_it : run.map ≡ map.number) where
   -- A call on one key has ended, and the seat shows the pair of a word with which it has answered.
   module _ (one : OneKey K V) (wanted : Wanted K V) (simple : plain wanted ≡ wanted) (call_is : call_for wanted ≡ On one) (it : Said) (began : run.began ≡ machine_for same hash map t wanted)
       (told : run.told ≡ progress.Done it) (word : ℕ) (stored : K) (value : V) (shown : shown_in v.held (block_in word) ≡ Some (Pair stored value)) where
@@ -211,7 +211,7 @@ module _ {K V S : Type 0} (same : K → K → Bool) (hash : S → K → ℕ) (fi
         → (So : ℕ → ℕ → List (Entry K V) → Entry K V → Type 0)
         → ((i m : ℕ) (log : List (Entry K V)) (e : Entry K V) (a : A) → WasNamed same i m (On one) (answer a) (stored, value) log e → So i m log e) → ItsCall same hash fixed id v So
     named answer by So so =
-        by_seen same hash fixed small id t v map run before knows section calls_are wanted simple began (ap has_ended told) word stored value shown So (λ log e ends names.
+        by_seen same hash fixed small id t v map run before knows section calls_are on_it wanted simple began (ap has_ended told) word stored value shown So (λ log e ends names.
         let o = outcome_of ends.0 (kind_of (call_for wanted)) ends.1 run.told in
         let on = ends.4 one call_is in
         let is = by ends.0 on.0 o (subst (λ (p : Progress (Node K V)). HasOutcome ends.0 one on.0 p o) told on.1) in
@@ -255,7 +255,7 @@ module _ {K V S : Type 0} (same : K → K → Bool) (hash : S → K → ℕ) (fi
   pub has_kept : (key : K) (it : Said) → run.began ≡ machine_for same hash map t (RemoveIf key) → run.told ≡ progress.Done it → (Left : Said → Type 0)
       → ((word : ℕ) → Left (said.Key (says.Removed word)) → ⊥) → Left it → HasKept same hash fixed id v key
   has_kept key it began told Left gone left =
-      by_newest same hash fixed small id t v map run before knows section calls_are (RemoveIf key) refl began (ap has_ended told)
+      by_newest same hash fixed small id t v map run before knows section calls_are on_it (RemoveIf key) refl began (ap has_ended told)
       (λ i m log e. (pair : Option ℕ) × IsItsEnd same i m (On (one_key.RemoveIf key)) (Answered (kept pair)) log e) (λ log e ends.
       let o = outcome_of ends.0 (kind_of (call_for {K = K} {V = V} (RemoveIf key))) ends.1 run.told in
       let on = ends.4 (one_key.RemoveIf key) refl in
@@ -266,7 +266,7 @@ module _ {K V S : Type 0} (same : K → K → Bool) (hash : S → K → ℕ) (fi
   pub has_aborted : (key : K) (it : Said) → run.began ≡ machine_for same hash map t (Compute key) → run.told ≡ progress.Done it → (Left : Said → Type 0) → ((new : ℕ) → Left (said.Key (says.Stored new)) → ⊥)
       → ((old new : ℕ) → Left (said.Key (says.Replaced old new)) → ⊥) → ((word : ℕ) → Left (said.Key (says.Removed word)) → ⊥) → Left it → HasAborted same hash fixed id v key
   has_aborted key it began told Left none other gone left =
-      by_newest same hash fixed small id t v map run before knows section calls_are (Compute key) refl began (ap has_ended told)
+      by_newest same hash fixed small id t v map run before knows section calls_are on_it (Compute key) refl began (ap has_ended told)
       (λ i m log e. (end : V) × IsItsEnd same i m (On (one_key.Compute key)) (Answered (answers.Aborted end)) log e) (λ log e ends.
       let o = outcome_of ends.0 (kind_of (call_for {K = K} {V = V} (Compute key))) ends.1 run.told in
       let on = ends.4 (one_key.Compute key) refl in

@@ -61,11 +61,7 @@ module _ {K V S : Type 0} (same : K → K → Bool) (hash : S → K → ℕ) (ma
   slot_is (Get key) = refl
   slot_is _ = refl
 
-  root_is : (wanted : Wanted K V) → (setting_in (machine wanted)).root ≡ map.setting.root
-  root_is (Get key) = refl
-  root_is _ = refl
-
--- One machine is for one thing, in one slot, on a map with one root.
+-- One machine is for one thing, in one slot.
 module _ {K V S : Type 0} (same : K → K → Bool) (hash : S → K → ℕ) (map other : Map S) (t u : ℕ) (wanted asked : Wanted K V)
     (one : machine_for same hash map t wanted ≡ machine_for same hash other u asked) where
   pub one_wanted : plain wanted ≡ plain asked
@@ -73,6 +69,3 @@ module _ {K V S : Type 0} (same : K → K → Bool) (hash : S → K → ℕ) (ma
 
   pub one_slot : t ≡ u
   one_slot = sym (slot_is same hash map t wanted) ∙ ap (λ (m : Machine K V K). (setting_in m).slot) one ∙ slot_is same hash other u asked
-
-  pub one_root : map.setting.root ≡ other.setting.root
-  one_root = sym (root_is same hash map t wanted) ∙ ap (λ (m : Machine K V K). (setting_in m).root) one ∙ root_is same hash other u asked

@@ -49,7 +49,7 @@ newest_with i P So (e ∷ log) all is = by (is_of i e.deed) (λ rest. newest_wit
     by false later rest = later rest
 
 module _ {K V S : Type 0} (same : K → K → Bool) (hash : S → K → ℕ) (fixed : Fixed) (small : fixed.batch_size < 2 ^ 64) (id t : ℕ) (v : View K V S) (map : Map S) (run : BegunCall K V)
-    (before : List (BegunCall K V)) (knows : v.map ≡ Some map) (section : section_of v.under v.slot ≡ Some t) (calls_are : v.calls ≡ run ∷ before) where
+    (before : List (BegunCall K V)) (knows : v.map ≡ Some map) (section : section_of v.under v.slot ≡ Some t) (calls_are : v.calls ≡ run ∷ before) (on_it : run.map ≡ map.number) where
   -- A call that was told an answer has ended so, and has done what it is for.
   module _ (wanted : Wanted K V) (simple : plain wanted ≡ wanted) (began : run.began ≡ machine_for same hash map t wanted) (it : Said) (told : run.told ≡ progress.Done it) (answer : Response V)
       (as_answered : (known : Known) (value : Option V) → outcome_of {K = K} known (kind_of (call_for wanted)) value (progress.Done it) ≡ Answered answer) where
@@ -64,7 +64,7 @@ module _ {K V S : Type 0} (same : K → K → Bool) (hash : S → K → ℕ) (fi
 
     ends_so : ItsCall same hash fixed id v (λ i m. IsItsEnd same i m (call_for wanted) (Answered answer))
     ends_so =
-        by_newest same hash fixed small id t v map run before knows section calls_are wanted simple began ended (λ i m. IsItsEnd same i m (call_for wanted) (Answered answer))
+        by_newest same hash fixed small id t v map run before knows section calls_are on_it wanted simple began ended (λ i m. IsItsEnd same i m (call_for wanted) (Answered answer))
         (λ log e as_told. its_end map.number log e as_told)
 
     pub has_done : HasDone same hash fixed id v (call_for wanted) answer
@@ -75,10 +75,10 @@ module _ {K V S : Type 0} (same : K → K → Bool) (hash : S → K → ℕ) (fi
         knows,
         λ aborts s h at_id asks.
             let all = histories_keep_all V same hash terms fixed small aborts s h asks in
-            let first = tell same hash fixed small aborts id t v map wanted run [] before knows calls_are simple began ended s h at_id in
+            let first = tell same hash fixed small aborts id t v map wanted run [] before knows calls_are on_it simple began ended s h at_id in
             let so = newest_as (caller_at id t) (EndsAs same (caller_at id t) map.number wanted run.told) (IsItsEnd same (caller_at id t) map.number (call_for wanted) (Answered answer))
-            (λ log e as_told. its_end map.number log e as_told) (history same hash fixed small id t v map run before knows section calls_are wanted simple began ended aborts s h at_id)
-            (ends same hash fixed small id t v map run before knows section calls_are wanted simple began ended aborts s h at_id) in
+            (λ log e as_told. its_end map.number log e as_told) (history same hash fixed small id t v map run before knows section calls_are on_it wanted simple began ended aborts s h at_id)
+            (ends same hash fixed small id t v map run before knows section calls_are on_it wanted simple began ended aborts s h at_id) in
             let in_all = subst (λ (x : Played K V S). ByNewest (caller_at id t) (IsItsEnd same (caller_at id t) map.number (call_for wanted) (Answered answer)) x.history)
             (same_some first.0 all.0 (sym first.1 ∙ all.1)) so in
             let both = newest_with (caller_at id t) (KeepsAll same terms) (IsItsEnd same (caller_at id t) map.number (call_for wanted) (Answered answer)) all.0.history all.2 in_all in (

@@ -55,7 +55,7 @@ module _ {K S : Type 0} (V : Type 0) (same : K → K → Bool) (hash : S → K �
   abbrev pub SeatsAreAnswered : Type 0
   SeatsAreAnswered =
       (fixed : Fixed) → fixed.batch_size < 2 ^ 64 → (aborts : ℕ → V) (id t : ℕ) (v : View K V S) (map : Map S) (wanted : Wanted K V) (run : BegunCall K V) (later before : List (BegunCall K V))
-      → v.map ≡ Some map → v.calls ≡ later ++ run ∷ before → plain wanted ≡ wanted → run.began ≡ machine_for same hash map t wanted → has_ended run.told ≡ true
+      → v.map ≡ Some map → v.calls ≡ later ++ run ∷ before → run.map ≡ map.number → plain wanted ≡ wanted → run.began ≡ machine_for same hash map t wanted → has_ended run.told ≡ true
       → (s : State (Node K V) (View K V S) (MapsWorld K V S)) → Holds same hash fixed s → view_of s id ≡ Some v
       → (after : Played K V S) × (play_all same hash fixed.batch_size fixed.roots aborts s.world.doings (first_state fixed.roots) ≡ Some after)
       × (known : Known) × (value : Option V)

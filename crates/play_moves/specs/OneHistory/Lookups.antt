@@ -62,7 +62,7 @@ module _ {K S : Type 0} (V : Type 0) (same : K → K → Bool) (hash : S → K �
   abbrev pub LookupsWereSo : Type 0
   LookupsWereSo =
       (fixed : Fixed) → fixed.batch_size < 2 ^ 64 → (aborts : ℕ → V) (id t : ℕ) (v : View K V S) (map : Map S) (key : K) (run : BegunCall K V) (later before : List (BegunCall K V)) (told : KeyAnswer)
-      → v.map ≡ Some map → v.calls ≡ later ++ run ∷ before → run.began ≡ machine_for same hash map t (GetsKey key) → run.told ≡ Done (Key told)
+      → v.map ≡ Some map → v.calls ≡ later ++ run ∷ before → run.map ≡ map.number → run.began ≡ machine_for same hash map t (GetsKey key) → run.told ≡ Done (Key told)
       → (s : State (Node K V) (View K V S) (MapsWorld K V S)) → Holds same hash fixed s → view_of s id ≡ Some v
       → (after : Played K V S) × (play_all same hash fixed.batch_size fixed.roots aborts s.world.doings (first_state fixed.roots) ≡ Some after)
       × (answer : Response V) × IsSuch told answer × IsLookedUp same after.history (caller_at id t) map.number key answer

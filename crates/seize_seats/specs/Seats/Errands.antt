@@ -15,10 +15,9 @@ pub record Aide : Type 0 where
   pub view : Gv
   pub part : Share
 
--- Which seat is lent for an errand. `Anyone` is of none that there is: it stands where it is asked what would be so.
+-- Which seats are lent for an errand: each of these. `Anyone` is of none that there is: it stands where it is asked what would be so.
 pub data Aided : Type 0 where
-  Nobody : Aided
-  By : Aide → Aided
+  These : List Aide → Aided
   Anyone : Aided
 
 -- an errand: the part that is left of the token of the memory's lifetime, and who is lent
@@ -30,44 +29,45 @@ pub record Outing : Type 0 where
 abbrev pub Away : Type 0
 Away = Option Outing
 
--- the seat of this number is lent
+-- the seat of this number is one of these
+abbrev pub IsOneOf : List Aide → ℕ → Type 0
+IsOneOf [] n = ⊥
+IsOneOf (a ∷ xs) n = (a.seat ≡ n) ⊎ IsOneOf xs n
+
+-- it is lent
 abbrev pub IsAide : Aided → ℕ → Type 0
-IsAide Nobody n = ⊥
-IsAide (By a) n = a.seat ≡ n
+IsAide (These xs) n = IsOneOf xs n
 IsAide Anyone n = Unit {0}
 
 abbrev pub Lends : Away → ℕ → Type 0
 Lends None n = ⊥
 Lends (Some o) n = IsAide o.aided n
 
--- with nobody lent
-abbrev pub alone_on : Share → Outing
-alone_on q = record { part = q; aided = Nobody }
-
 abbrev pub aide_of : Aide → ℕ × (Gv × Share)
 aide_of a = (a.seat, (a.view, a.part))
 
-abbrev pub aide_parts : Aided → List (Option (ℕ × (Gv × Share)))
-aide_parts Nobody = []
-aide_parts (By a) = Some (a.seat, (a.view, a.part)) ∷ []
-aide_parts Anyone = None ∷ []
+pub aides_inj : (xs ys : List Aide) → map aide_of xs ≡ map aide_of ys → xs ≡ ys
+aides_inj [] [] e = λ i. []
+aides_inj [] (y ∷ ys) e = absurd (cc e)
+aides_inj (x ∷ xs) [] e = absurd (cc e)
+aides_inj (x ∷ xs) (y ∷ ys) e =
+    let same : aide_of x ≡ aide_of y = cc e in let rest : xs ≡ ys = aides_inj xs ys (cc e) in
+    λ i. record { seat = (same i).0; view = (same i).1.0; part = (same i).1.1 } ∷ rest i
+
+abbrev pub aide_parts : Aided → Option (List (ℕ × (Gv × Share)))
+aide_parts (These xs) = Some (map aide_of xs)
+aide_parts Anyone = None
 
 pub aide_parts_inj : (x y : Aided) → aide_parts x ≡ aide_parts y → x ≡ y
-aide_parts_inj Nobody Nobody e = λ i. Nobody
-aide_parts_inj Nobody (By b) e = absurd (cc e)
-aide_parts_inj Nobody Anyone e = absurd (cc e)
-aide_parts_inj (By a) Nobody e = absurd (cc e)
-aide_parts_inj (By a) (By b) e =
-    let same : aide_of a ≡ aide_of b = cc e in λ i. By record { seat = (same i).0; view = (same i).1.0; part = (same i).1.1 }
-aide_parts_inj (By a) Anyone e = absurd (cc e)
-aide_parts_inj Anyone Nobody e = absurd (cc e)
-aide_parts_inj Anyone (By b) e = absurd (cc e)
+aide_parts_inj (These xs) (These ys) e = let same : xs ≡ ys = aides_inj xs ys (cc e) in λ i. These (same i)
+aide_parts_inj (These xs) Anyone e = absurd (cc e)
+aide_parts_inj Anyone (These xs) e = absurd (cc e)
 aide_parts_inj Anyone Anyone e = λ i. Anyone
 
-abbrev pub outing_of : Outing → Share × List (Option (ℕ × (Gv × Share)))
+abbrev pub outing_of : Outing → Share × Option (List (ℕ × (Gv × Share)))
 outing_of o = (o.part, aide_parts o.aided)
 
-abbrev pub parts_left : Away → List (Share × List (Option (ℕ × (Gv × Share))))
+abbrev pub parts_left : Away → List (Share × Option (List (ℕ × (Gv × Share))))
 parts_left None = []
 parts_left (Some o) = (o.part, aide_parts o.aided) ∷ []
 
@@ -80,7 +80,7 @@ parts_left_inj (Some o) (Some u) e =
     λ i. Some record { part = (same i).0; aided = aides i }
 
 abbrev pub away_coded : Coded Away
-away_coded = coded_via (coded_list (coded× coded_share (coded_list (coded_option (coded× coded_ℕ (coded× itself coded_share)))))) parts_left parts_left_inj
+away_coded = coded_via (coded_list (coded× coded_share (coded_option (coded_list (coded× coded_ℕ (coded× itself coded_share)))))) parts_left parts_left_inj
 
 -- How what a seat knows is kept, and what of it tells whether the seat is on an errand.
 pub record ViewCode (V : Type 0) : Type 0 where
@@ -95,10 +95,13 @@ coded_of c = record { code = c.code; inj = c.inj }
 abbrev pub with_away : {V : Type 0} → Coded V → ViewCode (V × Away)
 with_away c = record { code = (coded× c away_coded).code; inj = (coded× c away_coded).inj; away = λ u. u.1 }
 
--- what is left of the view of a seat that is lent, in a ledger of this name
+-- what is left of the views of seats that are lent, in a ledger of this name
+abbrev pub aide_shares : ℕ → List Aide → Fml
+aide_shares γ [] = ftrue
+aide_shares γ (a ∷ xs) = fsep (seen (λ (g : Gv). g) γ a.part a.seat a.view) (aide_shares γ xs)
+
 abbrev pub aide_stake : ℕ → Aided → Fml
-aide_stake γ Nobody = ftrue
-aide_stake γ (By a) = seen (λ (g : Gv). g) γ a.part a.seat a.view
+aide_stake γ (These xs) = aide_shares γ xs
 aide_stake γ Anyone = fact ⊥
 
 -- what a seat has left of the token of a lifetime, and what of a view
@@ -193,7 +196,7 @@ then_away e so out u = so out u.0 × (u.1 ≡ e)
 abbrev pub MayGo : {V : Type 0} → (V → Type 0) → Away → V → (V → Type 0) → Type 0
 MayGo {V} rests e v so = e ≡ None → rests v → (w : V) → so w → rests w
 
--- It leans on no seat more, but on the one that its errand is lent.
+-- It leans on no seat more, but on those that its errand is lent.
 abbrev pub MayLean : {V : Type 0} → (V → ℕ → Type 0) → Away → V → (V → Type 0) → Type 0
 MayLean {V} leans e v so = (w : V) → so w → (n : ℕ) → leans w n → leans v n ⊎ Lends e n
 

@@ -61,6 +61,7 @@ fn pair_by<'g, K: Eq, V, S: Hashes<K>>(
 ) -> &'g Node<K, V>
     requires own { (seat.now.base ≡ blocks.now.words.id.views_name) × (guard.now.base ≡ blocks.now.words.id.views_name) }
     requires under { (t : ℕ) × (seat.now.view.under ≡ Some (guard.now.id, t)) }
+    requires map { guard.now.view.map ≡ seat.now.view.map }
     requires free { seat.now.view.work ≡ NoWork }
     requires shown { IsSome (shown_in seat.now.view.held block) }
     ensures value { IsValueBy (Holds K.eq S.hash blocks.now.words.fixed) seat.now.id seat.now.view guard.now.id guard.now.view guard.now.id guard.now.view block result.now }
@@ -79,6 +80,7 @@ fn parts_by<'g, K: Eq, V, S: Hashes<K>>(
 ) -> (&'g K, &'g V)
     requires own { (seat.now.base ≡ blocks.now.words.id.views_name) × (guard.now.base ≡ blocks.now.words.id.views_name) }
     requires under { (t : ℕ) × (seat.now.view.under ≡ Some (guard.now.id, t)) }
+    requires map { guard.now.view.map ≡ seat.now.view.map }
     requires free { seat.now.view.work ≡ NoWork }
     requires shown { (key : K) × HasLookedAt K.eq key seat.now.view word }
     ensures { IsLentBy K.eq S.hash blocks.now.words.fixed seat.now.id seat.now.view guard.now.id guard.now.view word (result.0.now, result.1.now) }
@@ -99,6 +101,7 @@ fn lent<'g, K: Eq + Hash, V, S: Hashes<K>, Q: Equivalent<K>>(
 ) -> Option<(&'g K, &'g V)>
     requires own { (seat.now.base ≡ blocks.now.words.id.views_name) × (guard.now.base ≡ blocks.now.words.id.views_name) }
     requires under { (t : ℕ) × (seat.now.view.under ≡ Some (guard.now.id, t)) }
+    requires map { guard.now.view.map ≡ seat.now.view.map }
     requires looked { HasLooked K.eq (Q.stands_for _key.now) found seat.now.view }
     ensures lent { IfSome result (λ pair. (word : ℕ) × (found ≡ Some word)
         × IsLentBy K.eq S.hash blocks.now.words.fixed seat.now.id seat.now.view guard.now.id guard.now.view word (pair.0.now, pair.1.now)) }

@@ -17,6 +17,7 @@ impl<'a, K: Eq, V, S: Hashes<K>> MapCaller<'a, K, V, S> {
         requires own { seat.base ≡ blocks.now.words.id.views_name }
         requires home { is_home seat.away ≡ true }
         requires lone { seat.view.under ≡ None }
+        requires good { seat.view.by ≡ None }
         ensures view { result.seat.view ≡ seat.view }
         ensures blocks { result.blocks.now ≡ blocks.now }
     {
@@ -33,6 +34,7 @@ impl<'a, K: Eq, V, S: Hashes<K>> MapCaller<'a, K, V, S> {
         ensures own { result.base ≡ self.entry.blocks.now.words.id.views_name }
         ensures home { is_home result.away ≡ true }
         ensures lone { result.view.under ≡ None }
+        ensures good { result.view.by ≡ None }
         ensures view { result.view ≡ self.entry.seat.view }
     {
         let MapCaller {

@@ -21,6 +21,7 @@ impl<'a, K: Eq, V, S: Hashes<K>> SessionBase<'a, K, V, S> {
         requires own { seat.base ≡ blocks.now.words.id.views_name }
         requires home { is_home seat.away ≡ true }
         requires lone { seat.view.under ≡ None }
+        requires good { seat.view.by ≡ None }
         requires sized { blocks.now.words.fixed.batch_size ≡ setting.batch_size }
         requires knows { known_by seat.view ≡ Some (setting, hasher.now) }
         requires free { seat.view.work ≡ NoWork }
@@ -40,6 +41,7 @@ impl<'a, K: Eq, V, S: Hashes<K>> SessionBase<'a, K, V, S> {
         ensures own { result.0.base ≡ self.entry.caller.blocks.now.words.id.views_name }
         ensures home { is_home result.0.away ≡ true }
         ensures lone { result.0.view.under ≡ None }
+        ensures good { result.0.view.by ≡ None }
         ensures view { result.0.view ≡ self.entry.caller.seat.view }
         ensures setting { result.1 ≡ self.entry.setting }
         ensures sized { self.entry.caller.blocks.now.words.fixed.batch_size ≡ result.1.batch_size }

@@ -1,6 +1,6 @@
 -- The turns of a seat of maps, and the lookup that has begun.
 use Rattle.std.specs.Prelude.{max, Result, Ok, Err, IfErr, Option, None}
-use Rattle.std.proofs.Common.{◌≡◌, ℕ, ◌≤◌, ◌^◌, Bool, Some, ◌⊎◌, inl, refl, sym, subst, ap, ◌∙◌, arith}
+use Rattle.std.proofs.Common.{false, ◌≡◌, ℕ, ◌≤◌, ◌^◌, Bool, Some, ◌⊎◌, inl, inr, refl, sym, subst, ap, ◌∙◌, arith}
 use Rattle.seize_seats.specs.Seats.State.{Turns}
 use Rattle.seize_words.specs.declared.fault.Fault.{Fault}
 use Rattle.map_tables.specs.Lengths.{IsTableLen}
@@ -18,15 +18,15 @@ use Rattle.many_acts.specs.Acts.Acts.{Wanted, Get}
 use Rattle.seize_views.specs.declared.view.Fixed.{Fixed}
 use Rattle.seize_views.specs.declared.view.SlotView.TheVariants.{Rests}
 use Rattle.threads_rule.specs.Views.Begun.{machine_for, asked, making, replied}
-use Rattle.threads_rule.specs.Views.Rule.{Holds, KeepsFor, Leans, LeansOn, LooksAside, MayWant, section_of, stand_of}
+use Rattle.threads_rule.specs.Views.Rule.{Holds, KeepsFor, Leans, LeansOn, LooksAside, MayWant, section_of, stand_of, IsBy, side_of}
 use Rattle.threads_rule.specs.Views.Told.{turned, turned_by}
 use Rattle.threads_rule.specs.declared.view.Map.{Map}
 use Rattle.threads_rule.specs.declared.view.View.{View}
 use Rattle.threads_rule.specs.declared.view.SeatWork.{SeatWork}
-use Rattle.threads_rule.specs.declared.view.SeatWork.TheVariants.{Nothing, Calls, Makes}
+use Rattle.threads_rule.specs.declared.view.SeatWork.TheVariants.{Nothing, Calls, Makes, Ends}
 use Rattle.threads_rule.proofs.Views.Laws.{calls_are_asked, calls_are_told, calls_begin, makings_begin}
 use Rattle.threads_rule.specs.Errands.Calling.{IsUnderWay, MayDo, MayDoAs, Works, wanted_of}
-use Rattle.threads_rule.specs.CallKinds.Kinds.{Kind, Stage}
+use Rattle.threads_kinds.specs.CallKinds.Kinds.{Kind, Stage}
 use Rattle.threads_rule.specs.Errands.Looking.{Begins, IsOn, LooksFor, MayLook, StaysThere}
 use Rattle.threads_rule.specs.Errands.Making.{BeginsMaking, HasOutcome, MayBegin, PlansJust}
 use Rattle.seize_words.proofs.General.{same_some}
@@ -58,8 +58,8 @@ module _ {K V S : Type 0} (same : K → K → Bool) (hash : S → K → ℕ) (fi
   pub may_make : (plans : S → NewMap → Type 0) (hasher : S) (c : NewMap) → PlansJust plans hasher c → MayBegin fixed c → v.slot ≡ Rests → v.work ≡ Nothing
       → Turns (Holds same hash fixed) KeepsFor id v (BeginsMaking plans v)
   may_make plans hasher c just may rests free =
-      turns_to _ (BeginsMaking plans v) (λ w e. (e.0, hasher, c, just.0, e.1 ∙ ap (making v e.0 hasher) (sym may.is)))
-      (makings_begin V same hash fixed id v hasher may.given 0 rests free may.sized may.masked may.rooted may.initial eight)
+      turns_to _ (BeginsMaking plans v) (λ w e. (e.0, hasher, c, just.0, e.1 ∙ ap (making v false e.0 hasher) (sym may.is)))
+      (makings_begin V same hash fixed id v false hasher may.given 0 rests free may.sized may.masked may.rooted may.initial eight)
 
 -- what a making has come to, from where it began
 module _ {K V S : Type 0} (plans : S → NewMap → Type 0) (hasher : S) (opening : NewMap) (u v w : View K V S) (begins : BeginsMaking plans u v) where
@@ -71,7 +71,8 @@ module _ {K V S : Type 0} (plans : S → NewMap → Type 0) (hasher : S) (openin
   came_from answer came = record {
     made = came.made;
     refused = refused_there answer came.refused;
-    slot = came.slot ∙ ap (λ (x : View K V S). stand_of x) begins.4;
+    slot = came.slot ∙ ap (λ (x : View K V S). side_of x) begins.4;
+    good = λ e. came.good (ap (λ (x : View K V S). x.by) begins.4 ∙ e);
     calls = came.calls ∙ ap (λ (x : View K V S). x.calls) begins.4;
   }
 
@@ -139,28 +140,31 @@ stays_on u v w one other = record { slot = other.slot ∙ one.slot; map = other.
 
 -- who has begun a call or a making, or has taken a step without an operation, leans on whom it did
 module _ {K V S : Type 0} where
-  leans_still : (v w : View K V S) (n : ℕ) (X : Type 0) → w.under ≡ v.under → Leans w n → Leans v n ⊎ X
-  leans_still v w n X is leans = inl (subst (λ (o : Option (ℕ × ℕ)). LeansOn o n) is leans)
+  leans_still : (v w : View K V S) (n : ℕ) (X : Type 0) → w.under ≡ v.under → w.by ≡ v.by → Leans w n → Leans v n ⊎ X
+  leans_still v w n X is lone (inl leans) = inl (inl (subst (λ (o : Option (ℕ × ℕ)). LeansOn o n) is leans))
+  leans_still v w n X is lone (inr leans) = inl (inr (subst (λ (o : Option ℕ). IsBy o n) lone leans))
 
   pub begun_leans : (same : K → K → Bool) (hash : S → K → ℕ) (wanted : Wanted K V) (v w : View K V S) (n : ℕ) {X : Type 0} → Begins same hash wanted v w → Leans w n → Leans v n ⊎ X
-  begun_leans same hash wanted v w n {X} begins leans = leans_still v w n X (ap (λ (u : View K V S). u.under) begins.4) leans
+  begun_leans same hash wanted v w n {X} begins leans = leans_still v w n X (ap (λ (u : View K V S). u.under) begins.4) (ap (λ (u : View K V S). u.by) begins.4) leans
 
   pub making_leans : (plans : S → NewMap → Type 0) (v w : View K V S) (n : ℕ) {X : Type 0} → BeginsMaking plans v w → Leans w n → Leans v n ⊎ X
-  making_leans plans v w n {X} begins leans = leans_still v w n X (ap (λ (u : View K V S). u.under) begins.4) leans
+  making_leans plans v w n {X} begins leans = leans_still v w n X (ap (λ (u : View K V S). u.under) begins.4) (ap (λ (u : View K V S). u.by) begins.4) leans
 
   pub told_leans : (machine : Machine K V K) (reply : MachineReply V) (v w : View K V S) (n : ℕ) {X : Type 0} → w ≡ replied v machine reply → Leans w n → Leans v n ⊎ X
-  told_leans machine reply v w n {X} told leans = leans_still v w n X (ap (λ (u : View K V S). u.under) told) leans
+  told_leans machine reply v w n {X} told leans = leans_still v w n X (ap (λ (u : View K V S). u.under) told) (ap (λ (u : View K V S). u.by) told) leans
 
   pub asked_leans : (machine : Machine K V K) (v w : View K V S) (n : ℕ) {X : Type 0} → w ≡ asked v machine → Leans w n → Leans v n ⊎ X
-  asked_leans machine v w n {X} was leans = leans_still v w n X (ap (λ (u : View K V S). u.under) was) leans
+  asked_leans machine v w n {X} was leans = leans_still v w n X (ap (λ (u : View K V S). u.under) was) (ap (λ (u : View K V S). u.by) was) leans
 
   pub turned_leans : (same : K → K → Bool) (hash : S → K → ℕ) (v w : View K V S) (n : ℕ) {X : Type 0} → turned same hash v w → Leans w n → Leans v n ⊎ X
-  turned_leans same hash v w n {X} turns leans = leans_still v w n X (by v.map v.work turns) leans
+  turned_leans same hash v w n {X} turns leans = leans_still v w n X (by v.map v.work turns).0 (by v.map v.work turns).1 leans
     where
-      by : (map : Option (Map S)) (work : SeatWork K V S) → turned_by same hash v map work w → w.under ≡ v.under
-      by (Some map) (Calls machine) is = ap (λ (u : View K V S). u.under) is.2
+      by : (map : Option (Map S)) (work : SeatWork K V S) → turned_by same hash v map work w → (w.under ≡ v.under) × (w.by ≡ v.by)
+      by (Some map) (Calls machine) is = (ap (λ (u : View K V S). u.under) is.2, ap (λ (u : View K V S). u.by) is.2)
       by (Some map) Nothing is = absurd is
-      by (Some map) (Makes m hasher opening) is = absurd is
+      by (Some map) (Makes mine m hasher opening) is = absurd is
+      by (Some map) (Ends machine) is = absurd is
       by None Nothing is = absurd is
       by None (Calls machine) is = absurd is
-      by None (Makes m hasher opening) is = absurd is
+      by None (Makes mine m hasher opening) is = absurd is
+      by None (Ends machine) is = absurd is

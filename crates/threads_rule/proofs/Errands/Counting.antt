@@ -22,12 +22,12 @@ use Rattle.seize.specs.declared.advance.Advance.{Advance as Told}
 use Rattle.threads_rule.specs.Views.Looks.{shown_in}
 use Rattle.threads_rule.specs.Views.Told.{call_after}
 use Rattle.threads_rule.specs.declared.view.View.{View}
-use Rattle.threads_rule.specs.CallKinds.Answers.{IsAnswer}
-use Rattle.threads_rule.specs.CallKinds.Leads.{Leads}
+use Rattle.threads_kinds.specs.CallKinds.Answers.{IsAnswer}
+use Rattle.threads_kinds.specs.CallKinds.Leads.{Leads}
 use Rattle.threads_rule.specs.Errands.Calling.{MayStep, StepsTo, Works}
 use Rattle.threads_rule.specs.Errands.Counting.{AddsStill, CountedSo, IsAdding, IsCounting, IsOfCounting, MayCount, left_at}
 use Rattle.threads_rule.specs.Errands.Looking.{StaysThere}
-use Rattle.threads_rule.proofs.CallKinds.Leads.{leads_as}
+use Rattle.threads_kinds.proofs.CallKinds.Leads.{leads_as}
 use Rattle.threads_rule.proofs.Errands.Stepping.{works_so}
 
 -- What a shard's step comes to: the next one is to be added, and fewer are left, or the count is known.

@@ -25,7 +25,7 @@ use Rattle.map_machines.specs.declared.lookup.Looking.{Looking}
 use Rattle.map_machines.specs.declared.lookup.Looking.TheVariants as at
 use Rattle.seize_views.proofs.Views.Looks.{rest_of}
 use Rattle.threads_rule.specs.Errands.Looking.{IsOn}
-use Rattle.threads_rule.proofs.CallKinds.Plans.{IsPlain, LeavesValues, plain_either}
+use Rattle.threads_kinds.proofs.CallKinds.Plans.{IsPlain, LeavesValues, plain_either}
 use Rattle.seize_views.proofs.Views.Makes.{IsDo}
 
 -- the word names a pair of the key

@@ -16,9 +16,9 @@ use Rattle.map_machines.specs.declared.new_map.Opening.TheVariants as at
 use Rattle.seize_views.specs.Views.Told.{FollowsBy}
 use Rattle.seize_views.proofs.Views.Looks.{rest_of, IsNow}
 use Rattle.seize_views.specs.Views.Promises.{op_in}
-use Rattle.threads_rule.specs.CallKinds.Answers.{IsAnswer}
+use Rattle.threads_kinds.specs.CallKinds.Answers.{IsAnswer}
 use Rattle.threads_rule.specs.Errands.Making.{IsEarly, left_at, StaysChosen, GetsOn}
-use Rattle.threads_rule.proofs.CallKinds.Plans.{LeavesValues, IsAnsweredBy, answered_by}
+use Rattle.threads_kinds.proofs.CallKinds.Plans.{LeavesValues, IsAnsweredBy, answered_by}
 use Rattle.seize_views.proofs.Views.Makes.{IsDo}
 
 -- what a step tells: it goes on early, with no table to make

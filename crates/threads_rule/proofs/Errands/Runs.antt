@@ -13,7 +13,7 @@ use Rattle.threads_rule.specs.declared.view.BegunCall.{BegunCall}
 use Rattle.threads_rule.specs.declared.view.View.{View}
 use Rattle.threads_rule.specs.declared.view.SeatWork.TheVariants.{Nothing}
 use Rattle.threads_rule.proofs.Views.Pairs.{newest_pair}
-use Rattle.threads_rule.specs.CallKinds.Shows.{AnsweredAreVisible}
+use Rattle.threads_kinds.specs.CallKinds.Shows.{AnsweredAreVisible}
 use Rattle.threads_rule.specs.Views.Looks.{shown_in}
 use Rattle.threads_rule.specs.Errands.Calling.{CalledSo, IsReturned, HasEnded, IsBack, IsCalling, IsGoing, IsNoQuestion, outcome_of, pair_wanted}
 use Rattle.threads_rule.specs.Errands.Looking.{Begins, HasRun, HasProgressed, IsOfThem}

@@ -13,7 +13,7 @@ use Rattle.threads_rule.specs.declared.view.View.{View}
 use Rattle.threads_rule.specs.declared.view.SeatWork.TheVariants.{Calls}
 use Rattle.threads_rule.specs.Errands.Calling.{CalledSo, IsAnswerBy, IsAnswerTo, IsCalling, MayStep, Sort, StepsTo, Works, outcome_of, sort_of}
 use Rattle.threads_rule.specs.Errands.Looking.{StaysThere}
-use Rattle.threads_rule.proofs.CallKinds.Machines.{GoesAs, TellsOn, none_steady, tells_on}
+use Rattle.threads_rule.proofs.Errands.Machines.{GoesAs, TellsOn, none_steady, tells_on}
 
 module _ {K V S : Type 0} (hasher : S) where
   -- it is under way still, as another machine

@@ -17,9 +17,9 @@ use Rattle.papaya_raw.specs.declared.machines.asking.MachineReply.TheVariants as
 use Rattle.papaya_raw.specs.declared.machines.machine.Machine.{Machine}
 use Rattle.papaya_raw.specs.declared.machines.machine.Machine.TheVariants as kinds
 use Rattle.papaya_raw.specs.declared.machines.progress.Progress.{Progress}
-use Rattle.threads_rule.specs.CallKinds.Kinds.{PairIsVisible}
-use Rattle.threads_rule.specs.CallKinds.Shows.{ReadsWord, ReadPairIsVisible, ProgressNamesPair}
-use Rattle.threads_rule.specs.CallKinds.Sweeps.{IsFor, MayBeAt, OutcomeAgreesBy}
+use Rattle.threads_kinds.specs.CallKinds.Kinds.{PairIsVisible}
+use Rattle.threads_kinds.specs.CallKinds.Shows.{ReadsWord, ReadPairIsVisible, ProgressNamesPair}
+use Rattle.threads_kinds.specs.CallKinds.Sweeps.{IsFor, MayBeAt, OutcomeAgreesBy}
 use Rattle.threads_rule.specs.Views.Begun.{asked, replied}
 use Rattle.threads_rule.specs.Views.Looks.{shown_in}
 use Rattle.threads_rule.specs.Views.Told.{call_after}
@@ -27,9 +27,9 @@ use Rattle.threads_rule.specs.declared.view.View.{View}
 use Rattle.threads_rule.specs.Errands.Calling.{MayStep, StepsTo, Works}
 use Rattle.threads_rule.specs.Errands.Looking.{StaysThere}
 use Rattle.threads_rule.specs.Errands.Sweeping.{AsksNot, GoesOver, IsAskingOf, IsReady, IsSweeping, MayGoOver, RetainedSo, WalkedSo}
-use Rattle.threads_rule.proofs.CallKinds.Leads.{leads_as}
-use Rattle.threads_rule.proofs.CallKinds.Sweeps.{further_so, sweep_says}
-use Rattle.threads_rule.proofs.CallKinds.Swept.{TellsFrom, goes_not, tells_from}
+use Rattle.threads_kinds.proofs.CallKinds.Leads.{leads_as}
+use Rattle.threads_kinds.proofs.CallKinds.Sweeps.{further_so, sweep_says}
+use Rattle.threads_rule.proofs.Errands.Swept.{TellsFrom, goes_not, tells_from}
 use Rattle.threads_rule.proofs.Errands.Stepping.{works_so}
 
 -- any sweep may stand where it begins

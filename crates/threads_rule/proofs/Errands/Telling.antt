@@ -14,10 +14,10 @@ use Rattle.threads_rule.specs.Views.Looks.{shown_in}
 use Rattle.threads_rule.specs.Views.Told.{call_after}
 use Rattle.threads_rule.specs.declared.view.View.{View}
 use Rattle.threads_rule.specs.Errands.Calling.{IsUnderWay, MachineContinues, MayStep, StepsTo, StepOutcome}
-use Rattle.threads_rule.specs.CallKinds.Kinds.{Kind, Stage, SaysSo}
-use Rattle.threads_rule.specs.CallKinds.Leads.{Leads}
-use Rattle.threads_rule.proofs.CallKinds.Asking.{says}
-use Rattle.threads_rule.proofs.CallKinds.Leads.{leads_as}
+use Rattle.threads_kinds.specs.CallKinds.Kinds.{Kind, Stage, SaysSo}
+use Rattle.threads_kinds.specs.CallKinds.Leads.{Leads}
+use Rattle.threads_kinds.proofs.CallKinds.Asking.{says}
+use Rattle.threads_kinds.proofs.CallKinds.Leads.{leads_as}
 use Rattle.threads_rule.proofs.Errands.Stepping.{works_so}
 
 module _ {K V S : Type 0} (same : K → K → Bool) (k : Kind) (s : Stage) (hasher : S) where

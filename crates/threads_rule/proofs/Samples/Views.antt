@@ -1,6 +1,7 @@
 -- What the first operation of a lookup tells its seat, on a map that has no table; and what the operation of a row does.
 mod Aside
 mod Listed
+mod Owners
 use Rattle.std.specs.Prelude.{ℕ, ◌==◌, Bool, List, [], ◌∷◌, Option, Some, None}
 use Rattle.std.proofs.Common.{inl, inr, refl, subst, ap}
 use Rattle.seize_words.specs.OneMemory.Mem.{Mem}
@@ -24,8 +25,8 @@ use Rattle.seize_views.specs.declared.view.Becomes.TheVariants.{Idle}
 use Rattle.seize_views.specs.declared.view.Fixed.{Fixed}
 use Rattle.seize_views.specs.declared.view.SlotView.{SlotView}
 use Rattle.seize_views.specs.declared.view.SlotView.TheVariants.{Outside, Enters, Inside, Leaves}
-use Rattle.threads_rule.specs.CallKinds.Kinds.{PairIsVisible}
-use Rattle.threads_rule.specs.CallKinds.Shows.{AnsweredAreVisible}
+use Rattle.threads_kinds.specs.CallKinds.Kinds.{PairIsVisible}
+use Rattle.threads_kinds.specs.CallKinds.Shows.{AnsweredAreVisible}
 use Rattle.threads_rule.specs.Views.Begun.{machine_for, with_slot}
 use Rattle.threads_rule.specs.Views.Looks.{shown_in}
 use Rattle.threads_rule.specs.Views.Notes.{notes_of}
@@ -58,10 +59,10 @@ machine = machine_for same hash map 0 (Get 5)
 
 -- it has begun just this call, which has told this
 abbrev ran : Progress (Node ℕ ℕ) → List (BegunCall ℕ ℕ)
-ran told = record { began = machine; told = told } ∷ []
+ran told = record { map = 0; began = machine; told = told } ∷ []
 
 abbrev with_work : SeatWork ℕ ℕ ℕ → View ℕ ℕ ℕ
-with_work work = record { slot = Inside 0 NoBlock; under = None; map = Some map; work = work; looks = []; held = []; began = NotYet; calls = ran untold }
+with_work work = record { slot = Inside 0 NoBlock; under = None; by = None; own = None; map = Some map; work = work; looks = []; held = []; began = NotYet; calls = ran untold }
 
 abbrev answered : KeyAnswer → View ℕ ℕ ℕ
 answered answer = record (with_work Nothing) { calls = ran (Done (Key answer)) }
@@ -91,7 +92,7 @@ not_on (end, follows, is, may, came, hands, shows) =
 
 -- a call that has begun to store a pair hands that one back, and no other one
 abbrev stores : List (BegunCall ℕ ℕ)
-stores = record { began = machine_for same hash map 0 (Insert 5 7); told = untold } ∷ []
+stores = record { map = 0; began = machine_for same hash map 0 (Insert 5 7); told = untold } ∷ []
 
 hands_no_other : HandsBack stores (Unstored (Pair 5 8)) → ⊥
 hands_no_other hands = let is = hands (Pair 5 7) refl in cc is

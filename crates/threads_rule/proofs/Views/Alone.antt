@@ -12,11 +12,11 @@ use Rattle.seize_views.specs.declared.view.Has.TheVariants.{Nothing as NoBlock}
 use Rattle.seize_views.specs.declared.view.SlotView.{SlotView}
 use Rattle.seize_views.specs.declared.view.SlotView.TheVariants as slot_view
 use Rattle.seize_views.proofs.Views.Aside.{settles_used}
-use Rattle.threads_rule.specs.Views.Rule.{IsSlot, IsIdle, HasRow, DoesSo, IsLeant, LeansOn, Leans, Fits, caller_at, acts_in, section_of, place_of}
+use Rattle.threads_rule.specs.Views.Rule.{IsSlot, IsIdle, HasRow, DoesSo, IsLeant, LeansOn, LeansUnder, Fits, caller_at, acts_in, section_of, place_of}
 use Rattle.threads_rule.specs.declared.view.Map.{Map}
 use Rattle.threads_rule.specs.declared.view.View.{View}
 use Rattle.threads_rule.specs.declared.view.SeatWork.{SeatWork}
-use Rattle.threads_rule.specs.declared.view.SeatWork.TheVariants.{Nothing, Calls, Makes}
+use Rattle.threads_rule.specs.declared.view.SeatWork.TheVariants.{Nothing, Calls, Makes, Ends}
 use Rattle.threads_rule.proofs.Views.Leaves.{own_section}
 use Rattle.threads_rule.proofs.Views.Whose.{Seated, whose}
 use Rattle.seize_words.proofs.General.{same_some}
@@ -55,7 +55,8 @@ module _ {K V S : Type 0} (same : K → K → Bool) (hash : S → K → ℕ) (sc
   by_work a slot k on (Calls p) (Some map) d =
       let one = settles_on (scene.world.row a) d.0 slot d.4 on in
       record { seat = k.seat; knows = k.knows; here = k.here; caller = k.caller; has = by_section k.knows.slot k.knows.under slot (d.1 ∙ ap (λ (b : ℕ). Some b) one) }
-  by_work a slot k on (Makes m hasher opening) map d = absurd (subst (λ (x : Row). SettlesOn slot x) d.2 on)
+  by_work a slot k on (Makes mine m hasher opening) map d = absurd (subst (λ (x : Row). SettlesOn slot x) d.2 on)
+  by_work a slot k on (Ends machine) map d = absurd (subst (λ (x : Row). SettlesOn slot x) d.2 on)
 
   pub has_it : (a slot : ℕ) → SettlesOn slot (scene.world.row a) → Has a slot
   has_it a slot on =
@@ -99,7 +100,7 @@ module _ {K V S : Type 0} (same : K → K → Bool) (hash : S → K → ℕ) (sc
         subst (λ (x : SlotView (Node K V)). SettlesOn slot (row_of x)) l.4 its_row
 
     -- nor on the slot of a seat on which nobody leans
-    pub lone_on : ((j : ℕ) (x : View K V S) → view j ≡ Some x → Leans x id → ⊥) → (t : ℕ) (u : Use) → use_of v.slot ≡ Some (t, u) → (k : ℕ) → (k ≡ caller_at id (place_of v.slot) → ⊥)
+    pub lone_on : ((j : ℕ) (x : View K V S) → view j ≡ Some x → LeansUnder x id → ⊥) → (t : ℕ) (u : Use) → use_of v.slot ≡ Some (t, u) → (k : ℕ) → (k ≡ caller_at id (place_of v.slot) → ⊥)
         → SettlesOn t (scene.world.row k) → ⊥
     lone_on unlent t u mine k ne on =
         let l = others_lean t u mine k ne on in unlent l.0 l.1 l.2 (subst (λ (o : Option (ℕ × ℕ)). LeansOn o id) (sym l.3) refl)

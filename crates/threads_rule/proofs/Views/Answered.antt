@@ -1,9 +1,10 @@
 -- A pair with which a call on one key has answered is in the memory, with its value; and the section of its slot held it before that step, or it is in use then.
 use Rattle.std.specs.Prelude.{Some}
 use Rattle.std.proofs.Common.{◌≡◌, ℕ, ◌<◌, ◌^◌, Bool, true, false, ◌⊎◌, inl, inr, refl, sym, subst, ap, ◌∙◌}
+use Rattle.std.proofs.lemmas.Bool.{cases_lt}
 use Rattle.seize_words.specs.OneMemory.Mem.{Mem, value_at}
 use Rattle.seize_words.specs.OneMemory.Word.{block_in}
-use Rattle.seize.specs.Law.{holds}
+use Rattle.seize.specs.Law.{holds, owner_of}
 use Rattle.seize.specs.World.{World, InUse}
 use Rattle.seize.specs.declared.advance.Advance.{Advance as Counting}
 use Rattle.seize.specs.declared.advance.Advance.TheVariants as counting
@@ -34,7 +35,7 @@ use Rattle.map_straight.specs.Given.RuleInWorld.{KnownSince}
 use Rattle.map_straight.specs.Given.RuleWords.{Blocks, byte_of, place_word}
 use Rattle.map_straight.proofs.Given.RuleWords.PlaceWords.{pair_block}
 use Rattle.map_straight.proofs.Given.RuleWords.PlacesShown.{byte_of-few}
-use Rattle.threads_rule.specs.CallKinds.Shows.{AnswerNames, AnswersWith}
+use Rattle.threads_kinds.specs.CallKinds.Shows.{AnswerNames, AnswersWith}
 
 -- only a call on one key answers with pairs
 room_none : {T : Type 0} (end : Yielding T Unit) (word : ℕ) → AnswersWith (of_outcome end) word → ⊥
@@ -67,11 +68,11 @@ module _ {K V : Type 0} (same : K → K → Bool) (batch_size roots : ℕ) (s : 
   abbrev Did : UnderWay K V K → Type 0
   Did x = DidOfKind V same same batch_size roots slot_of s.world s.maps s.calls s.makers s.enders m it i m2 did.w2 did.maps2 did.next x machine told
 
-  -- a block is there with a pair, and was held, or is in use
+  -- a block is there with a pair, and was held, or is in use, and is of the map
   abbrev pub HasPair : ℕ → Type 0
   HasPair b =
       (key : K) × (value : V) × (value_at m2 b ≡ Some (Pair key value))
-      × ((holds (slot_of i) b s.world.log ≡ true) ⊎ ((o : ℕ) × (did.w2.hand b ≡ InUse o)))
+      × ((holds (slot_of i) b s.world.log ≡ true) ⊎ ((o : ℕ) × (did.w2.hand b ≡ InUse o))) × (owner_of b did.w2.log ≡ it.setting.counter)
 
   fits : (k : K) → it.hash k < 2 ^ 64
   fits = (all.makings.standing.fit m it here).0.fits
@@ -137,6 +138,7 @@ module _ {K V : Type 0} (same : K → K → Bool) (batch_size roots : ℕ) (s : 
     value.1,
     ap (λ (y : Mem (Node K V)). value_at y (to.step.went.blocks2.pair n)) (sym to.step.went.memory) ∙ value.2,
     why (since.pairs n was known),
+    ap (λ (y : World (Node K V)). owner_of (to.step.went.blocks2.pair n) y.log) moved ∙ its_own,
   )
     where
       value : (k : K) × (v : V) × (value_at to.step.went.w2.memory (to.step.went.blocks2.pair n) ≡ Some (Pair k v)) × (to.step.went.c2.key n ≡ Some k)
@@ -147,6 +149,20 @@ module _ {K V : Type 0} (same : K → K → Bool) (batch_size roots : ℕ) (s : 
           known_since same it.hash it.setting.mode it.chart to.step.went.c2 (all.makings.standing.each m it here).ground.map.map.rule {caller = i} to.step.went.moved seen to.step.went.blocks2
           to.step.went.blocks_same
 
+      -- what may be looked at then is the map's
+      its_own : owner_of (to.step.went.blocks2.pair n) to.step.went.w2.log ≡ it.setting.counter
+      its_own = elim (cases_lt n it.chart.stored) as (λ _. owner_of (to.step.went.blocks2.pair n) to.step.went.w2.log ≡ it.setting.counter) [
+        | inl less ↦
+            let back = to.step.went.blocks_same.pairs_back n less known in
+            let visible = ((all.makings.standing.each m it here).ground.sight (slot_of i) ((all.makings.standing.each m it here).inside i (OnKey x) at_i)).0.pairs n less back in
+            let same_block = (to.step.went.blocks_same.pairs n less back).0 in
+            let grown = to.step.grown.pairs n less in
+            ap (λ (b : ℕ). owner_of b to.step.went.w2.log) (same_block ∙ sym grown.0) ∙ to.step.together.ground.owned.pairs n was (grown.1 ∙ visible)
+        | inr new ↦
+            let grown = to.step.grown.new_pairs n new in
+            ap (λ (b : ℕ). owner_of b to.step.went.w2.log) (sym grown.0) ∙ to.step.together.ground.owned.pairs n was (grown.1 ∙ known)
+      ]
+
       why : ((n < it.chart.stored) × (seen.pair_known n ≡ true) × (to.step.went.blocks2.pair n ≡ seen.pair n)) ⊎ (to.step.went.c2.current n ≡ true)
           → (holds (slot_of i) (to.step.went.blocks2.pair n) s.world.log ≡ true) ⊎ ((o : ℕ) × (did.w2.hand (to.step.went.blocks2.pair n) ≡ InUse o))
       why (inl old) = inl (subst (λ (b : ℕ). holds (slot_of i) b s.world.log ≡ true) (sym old.2) (held x at_i n old.0 old.1))
@@ -155,8 +171,8 @@ module _ {K V : Type 0} (same : K → K → Bool) (batch_size roots : ℕ) (s : 
   -- and after one of a row
   in_row : (x : CallOnKey K V K) → s.calls m i ≡ Some (OnKey x) → (p2 : KeyCall K V K) (end : Called (Node K V))
       → (to : RowStepsWithEndings V same same batch_size roots slot_of s.world s.maps s.calls s.makers s.enders m it i x m2 p2 end)
-      → (n : ℕ) → n < it.chart.stored → seen.pair_known n ≡ true → HasPair (seen.pair n)
-  in_row x at_i p2 end to n was known =
+      → did.w2 ≡ to.step.w2 → (n : ℕ) → n < it.chart.stored → seen.pair_known n ≡ true → HasPair (seen.pair n)
+  in_row x at_i p2 end to stayed n was known =
       let together = all.makings.standing.each m it here in
       let visible = (together.ground.sight (slot_of i) (together.inside i (OnKey x) at_i)).0.pairs n was known in
       let value = to.step.together.ground.map.map.shows.pairs n was visible in (
@@ -164,6 +180,7 @@ module _ {K V : Type 0} (same : K → K → Bool) (batch_size roots : ℕ) (s : 
         value.1,
         ap (λ (y : Mem (Node K V)). value_at y (it.blocks.pair n)) (sym to.step.memory) ∙ value.2,
         inl (held x at_i n was known),
+        ap (λ (y : World (Node K V)). owner_of (it.blocks.pair n) y.log) stayed ∙ to.step.together.ground.owned.pairs n was visible,
       )
 
   pub answered_there : (word : ℕ) → AnswersWith told word → HasPair (block_in word)
@@ -177,7 +194,7 @@ module _ {K V : Type 0} (same : K → K → Bool) (batch_size roots : ℕ) (s : 
           by_answer to.step.went.c2 to.step.went.blocks2 (in_step c at_i p2 (called.Done answer) to moved.0) to.step.went.w2 c _ answer (to.step.answers answer refl) word
           (as_told (of_called (called.Done answer)) f)
       by (OnKey c) at_i (p2, called.Done answer, e, f, inr (to, stayed)) =
-          by_answer it.chart seen (in_row c at_i p2 (called.Done answer) to) to.step.w2 c c.change answer (to.step.answers answer refl) word (as_told (of_called (called.Done answer)) f)
+          by_answer it.chart seen (in_row c at_i p2 (called.Done answer) to stayed.0) to.step.w2 c c.change answer (to.step.answers answer refl) word (as_told (of_called (called.Done answer)) f)
       by (OnKey c) at_i (p2, called.Goes, e, f, step) = absurd (as_told (of_called called.Goes) f)
       by (OnKey c) at_i (p2, called.Waits, e, f, step) = absurd (as_told (of_called called.Waits) f)
       by (OnKey c) at_i (p2, called.Gave value, e, f, step) = absurd (as_told (of_called (called.Gave value)) f)

@@ -32,9 +32,9 @@ use Rattle.threads_rule.specs.declared.view.View.{View}
 use Rattle.threads_rule.specs.declared.view.SeatWork.{SeatWork}
 use Rattle.threads_rule.specs.declared.view.SeatWork.TheVariants.{Nothing, Calls}
 use Rattle.threads_rule.proofs.Views.Knows.{knows_within}
-use Rattle.threads_rule.proofs.Views.Leaves.{Leaves, leaves_all, own_section, section_place, section_inside, own_idle, map_on, call_here}
+use Rattle.threads_rule.proofs.Views.Leaves.{Leaves, leaves_all, none_ends, own_section, section_place, section_inside, own_idle, map_on, all_last, call_here}
 use Rattle.threads_rule.proofs.Views.Listed.{is_its, is_other, numbered_on}
-use Rattle.threads_rule.proofs.Views.Moved.{scene_of, all_stand, are_so, Moved, Adds, same_slot, moved}
+use Rattle.threads_rule.proofs.Views.Moved.{scene_of, all_stand, are_so, Moved, Adds, knows_alike, same_slot, moved}
 use Rattle.threads_rule.proofs.Views.Numbers.{slot_at}
 use Rattle.threads_rule.proofs.Views.Writers.{asked_writes, few_writers, looks_aside_on, replied_writes}
 use Rattle.many_acts.proofs.Given.CallersTogether.Few.{few_with_any}
@@ -115,10 +115,14 @@ module _ {K V S : Type 0} (same : K → K → Bool) (hash : S → K → ℕ) (fi
     its_does = (t, section, within t section, record { call = u; here = call_here scene.calls map.number i (Some u); is = is }, on_row)
 
     abbrev w : List (BegunCall K V) → View K V S
-    w runs = record { slot = v.slot; under = v.under; map = v.map; work = Calls machine; looks = []; held = []; began = v.began; calls = runs }
+    w runs = record { slot = v.slot; under = v.under; map = v.map; by = v.by; own = v.own; work = Calls machine; looks = []; held = []; began = v.began; calls = runs }
 
     leaves : Leaves same hash fixed.batch_size scene n i None
     leaves = leaves_all same hash fixed.batch_size scene map.number i (Some u)
+
+    stand : leaves.ends ≡ None
+    unfolding leaves
+    stand = none_ends same hash fixed.batch_size scene map.number i (Some u)
 
     go : LooksAside v.under (Some map) (Calls machine) → (act : Act K V S) (runs : List (BegunCall K V)) → AreNumbered 0 (s.world.doings ++ Does act ∷ []) (are_so same hash fixed s h).fresh.0 → pair_of u ≡ pair_in runs
         → Moved same hash fixed s h id act s.memory (w runs) n
@@ -128,7 +132,8 @@ module _ {K V S : Type 0} (same : K → K → Bool) (hash : S → K → ℕ) (fi
         slot = fits.slot;
         does = subst (λ (x : Option (Map S)). DoesSo same hash n i v.under v.slot x (Calls machine)) (sym knows) its_does;
         aside = fits.aside;
-        map = map_on same hash scene n id place fits.slot fixed.batch_size None leaves v.map fits.map;
+        map = map_on same hash scene n id place fits.slot fixed.batch_size None leaves v.map (all_last same hash scene n id place fits.slot fixed.batch_size None leaves stand v.map) fits.map;
+        own = map_on same hash scene n id place fits.slot fixed.batch_size None leaves v.own (all_last same hash scene n id place fits.slot fixed.batch_size None leaves stand v.own) fits.own;
         only = subst (λ (x : Option (Map S)). LooksAside v.under x (Calls machine)) (sym knows) only;
         held = tt;
         pair =
@@ -143,6 +148,8 @@ module _ {K V S : Type 0} (same : K → K → Bool) (hash : S → K → ℕ) (fi
       theirs = λ j t a b x ne at uses e. cc e;
       alone = same_slot same hash fixed s h id v (w runs) at_id refl;
       under = λ x at. ap (λ (y : View K V S). y.under) (same_some v x (sym at_id ∙ at));
+      knows = knows_alike same hash fixed s h id v (w runs) at_id refl refl refl;
+      gone = λ m e. absurd (cc (stand, e));
       leant = inl (refl, λ x at. ap (λ (y : View K V S). y.slot) (same_some v x (sym at_id ∙ at)));
       fresh = ((are_so same hash fixed s h).fresh.0, (are_so same hash fixed s h).fresh.1, numbered);
       row = knows_within fixed n id t v.under v.slot fits.aside section;
@@ -210,31 +217,31 @@ module _ {K V S : Type 0} (same : K → K → Bool) (hash : S → K → ℕ) (fi
     call = record { caller = i; map = map.number; wanted = wanted; told = untold }
 
     abbrev run : BegunCall K V
-    run = record { began = machine; told = untold }
+    run = record { map = map.number; began = machine; told = untold }
 
-    is_run : IsRun same hash to call run
-    is_run = record { map = map; stands = it; number = refl; plainly = plainly; began = ap (λ (a : ℕ). machine_for same hash map a wanted) (sym its_slot); told = refl }
+    is_run : IsRun same hash call run
+    is_run = record { map = map; number = refl; its = refl; plainly = plainly; began = ap (λ (a : ℕ). machine_for same hash map a wanted) (sym its_slot); told = refl }
 
     abbrev before : List (Called K V)
     before = calls_of id s.world.doings h.reached.1 []
 
-    adds : Adds same hash fixed s h id (BeginsCall i map.number wanted) (h.course.told h.reached.0 (Does (BeginsCall i map.number wanted)) may) v (calling v machine) to before
+    adds : Adds same hash fixed s h id (BeginsCall i map.number wanted) (h.course.told h.reached.0 (Does (BeginsCall i map.number wanted)) may) v (calling v map machine) to before
     adds = record {
       own = ((λ m k. 0), tt);
       others = λ j ne theirs. ap (λ (q : Bool). if q then call ∷ theirs else theirs) (is_other j id place fits.slot ne);
-      its = λ are. subst (λ (q : Bool). AreRuns same hash to (if q then call ∷ before else before) (run ∷ v.calls)) (sym (is_its id place fits.slot)) (is_run, are);
+      its = λ are. subst (λ (q : Bool). AreRuns same hash (if q then call ∷ before else before) (run ∷ v.calls)) (sym (is_its id place fits.slot)) (is_run, are);
       newest = λ other works. subst (λ (q : Bool). IsNewest i (if q then call ∷ before else before)) (sym (is_its id place fits.slot)) refl;
       aside = λ j ne theirs. refl;
       seen = λ before b x none. absurd (cc none);
     }
 
-    begins : Goes (Holds same hash fixed) KeepsFor s s.memory id (λ x. x ≡ calling v machine)
+    begins : Goes (Holds same hash fixed) KeepsFor s s.memory id (λ x. x ≡ calling v map machine)
     begins =
         let fresh = (are_so same hash fixed s h).fresh in
-        moved same hash fixed s h id v at_id (BeginsCall i map.number wanted) may to led.3 s.memory (calling v machine)
+        moved same hash fixed s h id v at_id (BeginsCall i map.number wanted) may to led.3 s.memory (calling v map machine)
         (go t section (begun same slot_of led.0 i wanted) machine machine_is on_row only (BeginsCall i map.number wanted) (run ∷ v.calls)
         (numbered_on s.world.doings (Does (BeginsCall i map.number wanted) ∷ []) 0 fresh.0 fresh.0 fresh.2 refl) (begun_pair same slot_of led.0 i wanted ∙ ap begun_with machine_is))
-        adds (λ x. x ≡ calling v machine) refl
+        adds (λ x. x ≡ calling v map machine) refl
 
   -- what it has under way it has so, if it leans on another seat
   only_so : (machine : Machine K V K) → v.work ≡ Calls machine → LooksAside v.under (Some map) (Calls machine)
@@ -313,7 +320,7 @@ module _ {K V S : Type 0} (same : K → K → Bool) (hash : S → K → ℕ) (fi
 module _ {K S : Type 0} (V : Type 0) (same : K → K → Bool) (hash : S → K → ℕ) where
   pub calls_begin : CallsBegin V same hash
   calls_begin fixed id t v map wanted section knows free only s h at_id =
-      subst (λ (machine : Machine K V K). Goes (Holds same hash fixed) KeepsFor s s.memory id (λ x. x ≡ calling v machine)) (begins_plainly same hash map t wanted)
+      subst (λ (machine : Machine K V K). Goes (Holds same hash fixed) KeepsFor s s.memory id (λ x. x ≡ calling v map machine)) (begins_plainly same hash map t wanted)
       (begins same hash fixed s h id v at_id map knows t section free (plain wanted) (plain_already wanted)
       (subst (λ (machine : Machine K V K). LooksAside v.under (Some map) (Calls machine)) (sym (begins_plainly same hash map t wanted)) only))
 

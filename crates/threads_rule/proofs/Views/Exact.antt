@@ -21,11 +21,11 @@ use Rattle.seize_views.specs.declared.view.Fixed.{Fixed}
 use Rattle.seize_views.specs.declared.view.SlotView.{SlotView}
 use Rattle.seize_views.specs.declared.view.SlotView.TheVariants as slot_view
 use Rattle.seize_views.specs.declared.view.Why.TheVariants.{Retiring}
-use Rattle.threads_rule.specs.Views.Rule.{MapsWorld, DoesSo, AreSo, Holds, LeansOn, Leans, section_of}
+use Rattle.threads_rule.specs.Views.Rule.{MapsWorld, DoesSo, AreSo, Holds, LeansOn, section_of, LeansUnder}
 use Rattle.threads_rule.specs.declared.view.Map.{Map}
 use Rattle.threads_rule.specs.declared.view.View.{View}
 use Rattle.threads_rule.specs.declared.view.SeatWork.{SeatWork}
-use Rattle.threads_rule.specs.declared.view.SeatWork.TheVariants.{Nothing, Calls, Makes}
+use Rattle.threads_rule.specs.declared.view.SeatWork.TheVariants.{Nothing, Calls, Makes, Ends}
 use Rattle.threads_rule.proofs.Views.Leaves.{own_section}
 use Rattle.threads_rule.proofs.Views.Moved.{scene_of, all_stand, are_so}
 use Rattle.threads_rule.proofs.Views.Whose.{whose}
@@ -61,7 +61,7 @@ same_here : (a : ℕ) (l : List ℕ) → (count a (a ∷ l) ≡ 0) → ⊥
 same_here a l e = grind (arith, e)
 
 module _ {K V S : Type 0} (same : K → K → Bool) (hash : S → K → ℕ) (fixed : Fixed) (s : State (Node K V) (View K V S) (MapsWorld K V S)) (h : Holds same hash fixed s)
-    (id : ℕ) (v : View K V S) (at_id : view_of s id ≡ Some v) (free : v.work ≡ Nothing) (unlent : IsUnlent Leans id s) (rests : row_of v.slot ≡ Rests) (t : ℕ) (u : Use) (uses : use_of v.slot ≡ Some (t, u)) where
+    (id : ℕ) (v : View K V S) (at_id : view_of s id ≡ Some v) (free : v.work ≡ Nothing) (unlent : IsUnlent LeansUnder id s) (rests : row_of v.slot ≡ Rests) (t : ℕ) (u : Use) (uses : use_of v.slot ≡ Some (t, u)) where
   abbrev scene : Scene K V
   scene = scene_of same hash fixed s h
 
@@ -96,7 +96,8 @@ module _ {K V S : Type 0} (same : K → K → Bool) (hash : S → K → ℕ) (fi
           let here = same_some leant.1 t section in
           let one = so.apart leant.0 id t (Inside 0) u base.0 v base.1 at_id (ap use_of base.2 ∙ ap (λ (b : ℕ). Some (b, Inside 0)) here) uses in
           unlent j x at (subst (λ (o : Option (ℕ × ℕ)). LeansOn o id) (sym e) one)
-  by_work j a x at on sh (Makes m hasher opening) map is d = no_rest (scene.world.row a) sh d.2
+  by_work j a x at on sh (Makes mine m hasher opening) map is d = no_rest (scene.world.row a) sh d.2
+  by_work j a x at on sh (Ends machine) map is d = no_rest (scene.world.row a) sh d.2
 
   nobody : (a : ℕ) → works_on (scene.world.row a) ≡ t + 1 → shares (scene.world.row a) ≡ true → ⊥
   nobody a on sh =

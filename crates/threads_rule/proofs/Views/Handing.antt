@@ -18,7 +18,7 @@ use Rattle.threads_rule.specs.declared.view.SeatWork.TheVariants.{Nothing}
 use Rattle.threads_rule.proofs.Views.Views.{Had, views_hold}
 use Rattle.seize_words.proofs.General.{same_some}
 
-module _ {K V S : Type 0} (same : K → K → Bool) (hash : S → K → ℕ) (fixed : Fixed) (i j : ℕ) (v u : View K V S) (map : Map S) (knows : v.map ≡ Some map) (free : u.work ≡ Nothing)
+module _ {K V S : Type 0} (same : K → K → Bool) (hash : S → K → ℕ) (fixed : Fixed) (i j : ℕ) (v u : View K V S) (map : Map S) (knows : v.map ≡ Some map) (lone : v.by ≡ None) (free : u.work ≡ Nothing)
     (s : State (Node K V) (View K V S) (MapsWorld K V S)) (h : Holds same hash fixed s) (at_i : view_of s i ≡ Some v) (at_j : view_of s j ≡ Some u) (apart : i ≢ j) where
   abbrev q : View K V S
   q = shown_map u map
@@ -40,8 +40,9 @@ module _ {K V S : Type 0} (same : K → K → Bool) (hash : S → K → ℕ) (fi
             (subst (λ (x : SeatWork K V S). DoesSo same hash scene (caller_at j (acts_in u.under u.slot)) u.under u.slot u.map x) free f.does);
         aside = f.aside;
         map = subst (λ (x : Option (Map S)). KnowsMap same hash scene x) knows (h.so.seats i v at_i).map;
+        own = f.own;
         only = subst (λ (x : SeatWork K V S). LooksAside u.under (Some map) x) (sym free) tt;
-        held = f.held;
+        held = tt;
         pair = subst (λ (x : SeatWork K V S). KnowsPair same hash scene (caller_at j (acts_in u.under u.slot)) (Some map) x u.calls) (sym free) tt;
         idle = f.idle;
       }
@@ -65,12 +66,19 @@ module _ {K V S : Type 0} (same : K → K → Bool) (hash : S → K → ℕ) (fi
         at = ap (view_of s) e ∙ at_j;
         slot = ap (λ (y : View K V S). y.slot) (sym one);
         under = inl (ap (λ (y : View K V S). y.under) (sym one));
+        own = ap (λ (y : View K V S). y.own) (sym one);
+        known = inr (
+          (λ n e. (let none = ap (λ (y : View K V S). y.by) one in absurd (cc (none, e)))),
+          λ l w mine at_l owns a e number.
+              let same_map = same_some map a (ap (λ (y : View K V S). y.map) one ∙ e) in
+              let lent = (h.so.maps i l v w mine at_i at_l owns).known map knows (ap (λ (m : Map S). m.number) same_map ∙ number) in absurd (cc (lone, lent)),
+        );
         calls = ap (λ (y : View K V S). y.calls) (sym one);
         work = ap (λ (y : View K V S). y.work) (sym one);
-        held = λ b y shown. ap (λ (z : View K V S). shown_in z.held b) one ∙ shown;
+        held = λ b y shown. (let none : shown_in q.held b ≡ Some y = ap (λ (z : View K V S). shown_in z.held b) one ∙ shown in absurd (cc none));
         fits = subst (λ (y : View K V S). Fits same hash scene k y) one (subst (λ (a : ℕ). Fits same hash scene a q) (sym e) given);
       }
-  had k x at (inr ne) = let was = sym (before k ne) ∙ at in record { knew = x; at = was; slot = refl; under = inl refl; calls = refl; work = refl; held = λ b y shown. shown; fits = h.so.seats k x was }
+  had k x at (inr ne) = let was = sym (before k ne) ∙ at in record { knew = x; at = was; slot = refl; under = inl refl; own = refl; known = inl (refl, refl); calls = refl; work = refl; held = λ b y shown. shown; fits = h.so.seats k x was }
 
   unborn : (k : ℕ) → slice_get views k ≡ None → (k ≡ j) ⊎ (k ≢ j) → view_of s k ≡ None
   unborn k at (inl e) = let f = ap (slice_get views) e in let g = here in absurd (cc (f, g, at))
@@ -81,5 +89,5 @@ module _ {K V S : Type 0} (same : K → K → Bool) (hash : S → K → ℕ) (fi
 
 module _ {K S : Type 0} (V : Type 0) (same : K → K → Bool) (hash : S → K → ℕ) where
   pub maps_are_handed_on : MapsAreHandedOn V same hash
-  maps_are_handed_on fixed i j v u map knows free s h at_i at_j apart =
-      (v, shown_map u map, handed same hash fixed i j v u map knows free s h at_i at_j apart, (refl, refl))
+  maps_are_handed_on fixed i j v u map knows lone free s h at_i at_j apart =
+      (v, shown_map u map, handed same hash fixed i j v u map knows lone free s h at_i at_j apart, (refl, refl))

@@ -9,16 +9,17 @@ use Rattle.seize_views.specs.declared.view.SlotView.{SlotView}
 use Rattle.threads_rule.specs.Views.Looks.{shown_in}
 use Rattle.threads_rule.specs.Views.Promises.{HeldAreShown}
 use Rattle.threads_rule.specs.Views.Rule.{MapsWorld, IsHeld, AllHeld, Holds}
+use Rattle.threads_rule.specs.declared.view.Map.{Map}
 use Rattle.threads_rule.specs.declared.view.View.{View}
 use Rattle.threads_rule.specs.declared.view.SeatWork.{SeatWork}
 use Rattle.seize_words.proofs.General.{same_some}
 
 module _ {K V S : Type 0} (same : K → K → Bool) (hash : S → K → ℕ) where
-  pub value_of : (scene : Scene K V) (under : Option (ℕ × ℕ)) (slot : SlotView (Node K V)) (work : SeatWork K V S) (b : ℕ) (x : Node K V) (looks : List (ℕ × Node K V))
-      → AllHeld same hash scene under slot work looks → shown_in looks b ≡ Some x
+  pub value_of : (scene : Scene K V) (under : Option (ℕ × ℕ)) (slot : SlotView (Node K V)) (map : Option (Map S)) (work : SeatWork K V S) (b : ℕ) (x : Node K V) (looks : List (ℕ × Node K V))
+      → AllHeld same hash scene under slot map work looks → shown_in looks b ≡ Some x
       → value_at scene.world.memory b ≡ Some x
-  value_of scene under slot work b x [] held is = absurd (cc is)
-  value_of scene under slot work b x (look ∷ looks) held is = by (b == look.0) refl is (value_of scene under slot work b x looks held.1)
+  value_of scene under slot map work b x [] held is = absurd (cc is)
+  value_of scene under slot map work b x (look ∷ looks) held is = by (b == look.0) refl is (value_of scene under slot map work b x looks held.1)
     where
       by : (k : Bool) → (b == look.0) ≡ k → (if k then Some look.1 else shown_in looks b) ≡ Some x → (shown_in looks b ≡ Some x → value_at scene.world.memory b ≡ Some x)
           → value_at scene.world.memory b ≡ Some x
@@ -26,16 +27,16 @@ module _ {K V S : Type 0} (same : K → K → Bool) (hash : S → K → ℕ) whe
       by false e f rest = rest f
 
   -- and why it lasts
-  pub held_of : (scene : Scene K V) (under : Option (ℕ × ℕ)) (slot : SlotView (Node K V)) (work : SeatWork K V S) (b : ℕ) (x : Node K V) (looks : List (ℕ × Node K V))
-      → AllHeld same hash scene under slot work looks → shown_in looks b ≡ Some x → IsHeld same hash scene under slot work (b, x)
-  held_of scene under slot work b x [] held is = absurd (cc is)
-  held_of scene under slot work b x (look ∷ looks) held is = by (b == look.0) refl is (held_of scene under slot work b x looks held.1)
+  pub held_of : (scene : Scene K V) (under : Option (ℕ × ℕ)) (slot : SlotView (Node K V)) (map : Option (Map S)) (work : SeatWork K V S) (b : ℕ) (x : Node K V) (looks : List (ℕ × Node K V))
+      → AllHeld same hash scene under slot map work looks → shown_in looks b ≡ Some x → IsHeld same hash scene under slot map work (b, x)
+  held_of scene under slot map work b x [] held is = absurd (cc is)
+  held_of scene under slot map work b x (look ∷ looks) held is = by (b == look.0) refl is (held_of scene under slot map work b x looks held.1)
     where
-      by : (k : Bool) → (b == look.0) ≡ k → (if k then Some look.1 else shown_in looks b) ≡ Some x → (shown_in looks b ≡ Some x → IsHeld same hash scene under slot work (b, x))
-          → IsHeld same hash scene under slot work (b, x)
+      by : (k : Bool) → (b == look.0) ≡ k → (if k then Some look.1 else shown_in looks b) ≡ Some x → (shown_in looks b ≡ Some x → IsHeld same hash scene under slot map work (b, x))
+          → IsHeld same hash scene under slot map work (b, x)
       by true e f rest =
-          subst (λ (y : Node K V). IsHeld same hash scene under slot work (b, y)) (same_some look.1 x f)
-          (subst (λ (a : ℕ). IsHeld same hash scene under slot work (a, look.1)) (sym (eqb-true b look.0 e)) held.0)
+          subst (λ (y : Node K V). IsHeld same hash scene under slot map work (b, y)) (same_some look.1 x f)
+          (subst (λ (a : ℕ). IsHeld same hash scene under slot map work (a, look.1)) (sym (eqb-true b look.0 e)) held.0)
       by false e f rest = rest f
 
 module _ {K S : Type 0} (V : Type 0) (same : K → K → Bool) (hash : S → K → ℕ) where
@@ -44,4 +45,4 @@ module _ {K S : Type 0} (V : Type 0) (same : K → K → Bool) (hash : S → K �
     where
       here : (t : State (Node K V) (View K V S) (MapsWorld K V S)) → Holds same hash fixed t → view_of t id ≡ Some v → value_at t.memory b ≡ Some x
       here t h at =
-          ap (λ (m : Mem (Node K V)). value_at m b) h.so.memory ∙ value_of same hash t.world.scene v.under v.slot v.work b x v.held (h.so.seats id v at).held is
+          ap (λ (m : Mem (Node K V)). value_at m b) h.so.memory ∙ value_of same hash t.world.scene v.under v.slot v.map v.work b x v.held (h.so.seats id v at).held is

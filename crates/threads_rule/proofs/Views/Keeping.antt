@@ -11,7 +11,8 @@ use Rattle.seize_model.proofs.Alone.Histories.NotTaken.{IsHeld as IsHeldBy, kept
 use Rattle.seize_views.specs.declared.view.Has.TheVariants.{Nothing as NoBlock}
 use Rattle.seize_views.specs.declared.view.SlotView.TheVariants.{Inside}
 use Rattle.threads_rule.specs.Views.Promises.{HeldAreKept, KeptAreThere}
-use Rattle.threads_rule.specs.Views.Rule.{IsInSection, IsOfCall, KeepsFor, section_of}
+use Rattle.threads_rule.specs.Views.Rule.{IsInSection, IsOfCall, IsOfMap, KeepsFor, section_of}
+use Rattle.threads_rule.specs.declared.view.Map.{Map}
 use Rattle.threads_rule.specs.declared.view.View.{View}
 use Rattle.threads_rule.specs.declared.view.SeatWork.{SeatWork}
 use Rattle.threads_rule.proofs.Views.Held.{held_of}
@@ -20,18 +21,24 @@ use Rattle.seize_words.proofs.General.{same_some}
 
 module _ {K S : Type 0} (V : Type 0) (same : K → K → Bool) (hash : S → K → ℕ) where
   pub held_are_kept : HeldAreKept V same hash
-  held_are_kept fixed i n t k b v u o x leans free shown s h at_i at_n at_k =
-      by (held_of same hash s.world.scene v.under v.slot v.work b x v.held (h.so.seats i v at_i).held shown).1
+  held_are_kept fixed i n t k b v u o x leans free same_map shown s h at_i at_n at_k =
+      by (held_of same hash s.world.scene v.under v.slot v.map v.work b x v.held (h.so.seats i v at_i).held shown).1
     where
       inside : (a : ℕ) → section_of v.under v.slot ≡ Some a → t ≡ a
       inside a section = same_some t a (sym (ap (λ (p : Option (ℕ × ℕ)). section_of p v.slot) leans) ∙ section)
 
-      by : IsInSection same hash s.world.scene v.under v.slot b ⊎ IsOfCall same hash v.work b → KeepsFor u o s.world b
-      by (inl (a, section, held, over)) =
+      of : IsOfMap v.map b s.world.scene.world → IsOfMap o.map b s.world.scene.world ⊎ IsOfMap o.own b s.world.scene.world
+      of is = elim same_map as (λ _. IsOfMap o.map b s.world.scene.world ⊎ IsOfMap o.own b s.world.scene.world) [
+        | inl its ↦ inl (subst (λ (m : Option (Map S)). IsOfMap m b s.world.scene.world) (sym its) is)
+        | inr its ↦ inr (subst (λ (m : Option (Map S)). IsOfMap m b s.world.scene.world) (sym its) is)
+      ]
+
+      by : IsInSection same hash s.world.scene v.under v.slot v.map b ⊎ IsOfCall same hash v.work b → KeepsFor u o s.world b
+      by (inl (a, section, held, is)) =
           let base = h.so.leant i n t v at_i leans in
           let one = same_some base.0 u (sym base.1 ∙ at_n) in
-          (a, NoBlock, ap (λ (y : View K V S). y.slot) (sym one) ∙ base.2 ∙ ap (λ (c : ℕ). Inside c NoBlock) (inside a section), held, over)
-      by (inr of) = absurd (subst (λ (y : SeatWork K V S). IsOfCall same hash y b) free of)
+          (a, NoBlock, ap (λ (y : View K V S). y.slot) (sym one) ∙ base.2 ∙ ap (λ (c : ℕ). Inside c NoBlock) (inside a section), held, of is)
+      by (inr its) = absurd (subst (λ (y : SeatWork K V S). IsOfCall same hash y b) free its)
 
   pub kept_are_there : KeptAreThere V same hash
   kept_are_there fixed s j u k o b h at_j at_k keeps =

@@ -24,7 +24,7 @@ use Rattle.threads_rule.specs.Views.Rule.{HasRow, DoesSo, Fits, KnowsRow, IsAsid
 use Rattle.threads_rule.specs.declared.view.Map.{Map}
 use Rattle.threads_rule.specs.declared.view.View.{View}
 use Rattle.threads_rule.specs.declared.view.SeatWork.{SeatWork}
-use Rattle.threads_rule.specs.declared.view.SeatWork.TheVariants.{Nothing, Calls, Makes}
+use Rattle.threads_rule.specs.declared.view.SeatWork.TheVariants.{Nothing, Calls, Makes, Ends}
 use Rattle.seize_views.proofs.Views.Handed.{reclaiming_handed}
 use Rattle.threads_rule.proofs.Views.Leaves.{own_section}
 use Rattle.threads_rule.proofs.Views.Ran.{Keeps}
@@ -123,4 +123,5 @@ module _ {K V S : Type 0} (same : K → K → Bool) (hash : S → K → ℕ) (fi
       by None Nothing map own free aside d = has own free
       by None (Calls p) None own free aside d = absurd d
       by None (Calls p) (Some map) own free aside d = knows_inside fixed n j d.0 x.slot (own_section x.slot d.0 d.1)
-      by None (Makes m hasher opening) map own free aside d = knows_rests fixed n j x.slot d.0
+      by None (Makes mine m hasher opening) map own free aside d = knows_rests fixed n j x.slot d.0
+      by None (Ends machine) map own free aside d = knows_rests fixed n j x.slot d.0

@@ -20,7 +20,7 @@ use Rattle.threads_rule.specs.Views.Reclaims.{IsNextOf}
 use Rattle.threads_rule.specs.Views.Rule.{DoesSo, KnowsMap, IsOfCall}
 use Rattle.threads_rule.specs.declared.view.Map.{Map}
 use Rattle.threads_rule.specs.declared.view.SeatWork.{SeatWork}
-use Rattle.threads_rule.specs.declared.view.SeatWork.TheVariants.{Nothing, Calls, Makes}
+use Rattle.threads_rule.specs.declared.view.SeatWork.TheVariants.{Nothing, Calls, Makes, Ends}
 use Rattle.seize_views.proofs.Views.Handed.{reclaiming_handed}
 use Rattle.threads_rule.proofs.Views.Leaves.{Leaves}
 use Rattle.threads_rule.proofs.Views.Made.{own_is_made}
@@ -49,4 +49,5 @@ module _ {K V S : Type 0} (same : K → K → Bool) (hash : S → K → ℕ) (ba
   of_call_lasts under slot (Some map) (Calls machine) does knows (inr next) =
       reclaimed_lasts
       (row_reclaims same hash batch_size roots s all map.number knows.0 knows.1 k b does.3.call does.3.here (subst (λ (y : Machine K V K). IsNextOf y b) (sym does.3.is) next))
-  of_call_lasts under slot map (Makes m hasher opening) does knows of = absurd of
+  of_call_lasts under slot map (Makes mine m hasher opening) does knows of = absurd of
+  of_call_lasts under slot map (Ends machine) does knows of = absurd of

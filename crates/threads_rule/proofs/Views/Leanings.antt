@@ -67,6 +67,7 @@ module _ {K V S : Type 0} (same : K → K → Bool) (hash : S → K → ℕ) (fi
           does = subst (λ (x : SeatWork K V S). DoesSo same hash scene (caller_at id (acts_in under v.slot)) under v.slot v.map x) (sym free) row;
           aside = aside under;
           map = f.map;
+          own = f.own;
           only = subst (λ (x : SeatWork K V S). LooksAside under v.map x) (sym free) tt;
           held = tt;
           pair = subst (λ (x : SeatWork K V S). KnowsPair same hash scene (caller_at id (acts_in under v.slot)) v.map x v.calls) (sym free) tt;
@@ -93,6 +94,8 @@ module _ {K V S : Type 0} (same : K → K → Bool) (hash : S → K → ℕ) (fi
                 ap (λ (y : View K V S). y.held) (sym one),
                 λ n t is. on n t (ap (λ (y : View K V S). y.under) one ∙ is),
               );
+          own = ap (λ (y : View K V S). y.own) (sym one);
+          known = inl (ap (λ (y : View K V S). y.map) (sym one), ap (λ (y : View K V S). y.by) (sym one));
           calls = ap (λ (y : View K V S). y.calls) (sym one);
           work = ap (λ (y : View K V S). y.work) (sym one);
           held = λ b y shown. (let none : shown_in w.held b ≡ Some y = ap (λ (z : View K V S). shown_in z.held b) one ∙ shown in absurd (cc none));
@@ -100,7 +103,7 @@ module _ {K V S : Type 0} (same : K → K → Bool) (hash : S → K → ℕ) (fi
         }
     had k x at (inr ne) =
         let was = sym (elsewhere s.views id k w ne) ∙ at in
-        record { knew = x; at = was; slot = refl; under = inl refl; calls = refl; work = refl; held = λ b y shown. shown; fits = h.so.seats k x was }
+        record { knew = x; at = was; slot = refl; under = inl refl; own = refl; known = inl (refl, refl); calls = refl; work = refl; held = λ b y shown. shown; fits = h.so.seats k x was }
 
     unborn : (k : ℕ) → slice_get views k ≡ None → (k ≡ id) ⊎ (k ≢ id) → view_of s k ≡ None
     unborn k at (inl e) = let f = here k e in absurd (cc (f, at))

@@ -2,27 +2,27 @@
 use Rattle.std.specs.Prelude.{◌≢◌, Option, Some, None}
 use Rattle.std.proofs.Common.{◌≡◌, ℕ, Bool, ◌⊎◌, inl, inr, refl, sym, subst, ap, ◌∙◌, true, false, List, [], ◌∷◌}
 use Rattle.seize_words.specs.OneMemory.Mem.{value_at}
-use Rattle.seize.specs.Law.{holds, is_over}
+use Rattle.seize.specs.Law.{holds, owner_of}
 use Rattle.seize.specs.World.{Row, Use, Vacant, Outside, Inside, Changing, IsInside}
 use Rattle.map_tables.specs.Nodes.{deferred_word}
 use Rattle.map_tables.specs.declared.node.Node.{Node}
+use Rattle.map_tables.specs.declared.setting.Setting.{Setting}
 use Rattle.many_acts.specs.Given.CallersRows.{IsUsedAlike, IsRowOn}
 use Rattle.many_acts.specs.Given.CallersTogether.{UnderWay}
 use Rattle.many_acts.specs.Given.FinishesMaps.{Standing, with_call}
 use Rattle.many_acts.specs.Given.ScenesScene.{Scene}
-use Rattle.seize_acts.specs.Acts.Stays.{how_many, is_end_of_owner}
 use Rattle.many_acts.proofs.Acts.Counts.{its_call, other_call}
 use Rattle.seize_views.specs.Views.Rows.{use_of}
 use Rattle.seize_views.specs.declared.view.Has.{Has}
 use Rattle.seize_views.specs.declared.view.Has.TheVariants.{Nothing as NoBlock, Made, Seen, Both, Cut, Walks}
 use Rattle.seize_views.specs.declared.view.SlotView.{SlotView}
 use Rattle.seize_views.specs.declared.view.SlotView.TheVariants as slot_view
-use Rattle.threads_rule.specs.Views.Rule.{IsIdle, IsUsedSo, IsSlot, DoesSo, KnowsMap, KnowsPair, Fits, IsAside, IsLeant, caller_at, place_of, acts_in, section_of, IsInSection, IsOfCall, IsHeld, AllHeld}
+use Rattle.threads_rule.specs.Views.Rule.{IsIdle, IsUsedSo, IsSlot, DoesSo, KnowsMap, KnowsPair, Fits, IsAside, IsLeant, caller_at, place_of, acts_in, section_of, IsInSection, IsOfCall, IsOfMap, IsHeld, AllHeld}
 use Rattle.threads_rule.specs.declared.view.Map.{Map}
 use Rattle.threads_rule.specs.declared.view.BegunCall.{BegunCall}
 use Rattle.threads_rule.specs.declared.view.View.{View}
 use Rattle.threads_rule.specs.declared.view.SeatWork.{SeatWork}
-use Rattle.threads_rule.specs.declared.view.SeatWork.TheVariants.{Nothing, Calls, Makes}
+use Rattle.threads_rule.specs.declared.view.SeatWork.TheVariants.{Nothing, Calls, Makes, Ends}
 use Rattle.seize_views.proofs.Views.Moved.{not_vacant}
 use Rattle.threads_rule.proofs.Views.Numbers.{seat_apart, slot_apart}
 use Rattle.threads_rule.proofs.Views.Made.{KeepsMade}
@@ -112,7 +112,8 @@ module _ {K V S : Type 0} (same : K → K → Bool) (hash : S → K → ℕ) whe
         where
           same_slot : slot_view.Inside d.0 NoBlock ≡ slot_view.Inside t has → d.0 ≡ t
           same_slot e = cc e
-      by (Makes m hasher opening) map d = let rests = d.0 in absurd (cc (rests, is))
+      by (Makes mine m hasher opening) map d = let rests = d.0 in absurd (cc (rests, is))
+      by (Ends machine) map d = let rests = d.0 in absurd (cc (rests, is))
 
   -- and so is the one within whose section it has calls under way
   pub section_inside : (scene : Scene K V) (view : ℕ → Option (View K V S)) → ((j : ℕ) (v : View K V S) → view j ≡ Some v → Fits same hash scene j v)
@@ -127,17 +128,18 @@ module _ {K V S : Type 0} (same : K → K → Bool) (hash : S → K → ℕ) whe
           inside_of scene at_it.0 t base.0 NoBlock (seats at_it.0 base.0 base.1) (base.2 ∙ ap (λ (a : ℕ). slot_view.Inside a NoBlock) (same_some at_it.1 t is))
 
   -- What a step of this caller leaves: what the others have under way, how slots are used but its own, the maps as callers know them, what sections hold, what the
-  -- collector has, and within how many steps the others settle.
+  -- collector has, and within how many steps the others settle. One map at most ends by it.
   pub record Leaves (size : ℕ) (s n : Scene K V) (i : ℕ) (mine : Option (ℕ × Use)) : Type 0 where
     pub rows : (k : ℕ) → k ≢ i → n.world.row k ≡ s.world.row k
     pub calls : (m k : ℕ) → k ≢ i → n.calls m k ≡ s.calls m k
     pub makers : (k : ℕ) → k ≢ i → n.makers k ≡ s.makers k
-    pub enders : (k : ℕ) → n.enders k ≡ s.enders k
+    pub enders : (k : ℕ) → k ≢ i → n.enders k ≡ s.enders k
     pub uses : (t : ℕ) → (s.world.uses t ≡ Vacant → ⊥) → ((a : Use) → mine ≡ Some (t, a) → ⊥) → IsUsedAlike (s.world.uses t) (n.world.uses t)
-    pub maps : (m : ℕ) (r : Standing K) → s.maps m ≡ Some r → (r2 : Standing K) × (n.maps m ≡ Some r2) × (r2.setting ≡ r.setting) × (r2.hash ≡ r.hash)
-    pub held : (t b : ℕ) → ((a : Use) → mine ≡ Some (t, a) → ⊥) → IsInside (s.world.uses t) → holds t b s.world.log ≡ true → is_over b s.world.log ≡ false
-        → (holds t b n.world.log ≡ true) × (is_over b n.world.log ≡ false) × (value_at n.world.memory b ≡ value_at s.world.memory b)
-    pub ended : (o : ℕ) → how_many (is_end_of_owner o) n.world.log ≡ how_many (is_end_of_owner o) s.world.log
+    pub ends : Option ℕ
+    pub maps : (m : ℕ) (r : Standing K) → (ends ≡ Some m → ⊥) → s.maps m ≡ Some r → (r2 : Standing K) × (n.maps m ≡ Some r2) × (r2.setting ≡ r.setting) × (r2.hash ≡ r.hash)
+    pub held : (t b m : ℕ) (r : Standing K) → ((a : Use) → mine ≡ Some (t, a) → ⊥) → IsInside (s.world.uses t) → (ends ≡ Some m → ⊥) → s.maps m ≡ Some r → owner_of b s.world.log ≡ r.setting.counter
+        → holds t b s.world.log ≡ true
+        → (holds t b n.world.log ≡ true) × (owner_of b n.world.log ≡ owner_of b s.world.log) × (value_at n.world.memory b ≡ value_at s.world.memory b)
     pub made : (k : ℕ) → k ≢ i → KeepsMade s.world n.world k
     pub keeps : Keeps s.world n.world
     pub passes : (c : ℕ) → i ≢ c → Passes deferred_word size s.world n.world c
@@ -148,15 +150,19 @@ module _ {K V S : Type 0} (same : K → K → Bool) (hash : S → K → ℕ) whe
     rows = λ k ne. refl;
     calls = λ n k ne. call_other s.calls m i it n k ne;
     makers = λ k ne. refl;
-    enders = λ k. refl;
+    enders = λ k ne. refl;
     uses = λ t used apart. alike_same (s.world.uses t);
-    maps = λ n r is. (r, is, refl, refl);
-    held = λ t b apart inside held over. (held, over, refl);
-    ended = λ o. refl;
+    ends = None;
+    maps = λ n r lasts is. (r, is, refl, refl);
+    held = λ t b m r apart inside lasts stands owner held. (held, refl, refl);
     made = λ k ne b x made is other. is;
     keeps = λ b its there some. refl;
     passes = λ c ne was now. ([], refl);
   }
+
+  pub none_ends : (size : ℕ) (s : Scene K V) (m i : ℕ) (it : Option (UnderWay K V K)) → (leaves_all size s m i it).ends ≡ None
+  unfolding leaves_all
+  none_ends size s m i it = refl
 
   module _ (s next : Scene K V) (id t : ℕ) (its_slot : IsSlot t) (size : ℕ) (mine : Option (ℕ × Use)) (leaves : Leaves size s next (caller_at id t) mine) where
     abbrev i : ℕ
@@ -166,7 +172,7 @@ module _ {K V S : Type 0} (same : K → K → Bool) (hash : S → K → ℕ) whe
     idle_on k ne f = record {
       calls = λ n. leaves.calls n k ne ∙ f.calls n;
       makers = leaves.makers k ne ∙ f.makers;
-      enders = leaves.enders k ∙ f.enders;
+      enders = leaves.enders k ne ∙ f.enders;
       row = leaves.rows k ne ∙ f.row;
     }
 
@@ -196,38 +202,59 @@ module _ {K V S : Type 0} (same : K → K → Bool) (hash : S → K → ℕ) whe
       slot = used_on (use_of slot) (λ a u. not_vacant slot a u) apart f.slot;
       calls = λ n. leaves.calls n k ne ∙ f.calls n;
       makers = leaves.makers k ne ∙ f.makers;
-      enders = leaves.enders k ∙ f.enders;
+      enders = leaves.enders k ne ∙ f.enders;
     }
     does_on k ne under slot apart within None (Calls p) f = absurd f
     does_on k ne under slot apart within (Some map) (Calls p) f =
         (f.0, f.1, section_on f.0 (within f.0 f.1) f.2, record { call = f.3.call; here = leaves.calls map.number k ne ∙ f.3.here; is = f.3.is }, subst (λ (x : Row). IsRowOn f.0 x) (sym (leaves.rows k ne)) f.4)
-    does_on k ne under slot apart within map (Makes n hasher opening) f = (
+    does_on k ne under slot apart within map (Ends machine) f =
+        (f.0, record { ending = f.1.ending; here = leaves.enders k ne ∙ f.1.here; is = f.1.is; calls = λ a. leaves.calls a k ne ∙ f.1.calls a }, leaves.rows k ne ∙ f.2)
+    does_on k ne under slot apart within map (Makes mine n hasher opening) f = (
       f.0,
       record { making = f.1.making; here = leaves.makers k ne ∙ f.1.here; map = f.1.map; hashes = f.1.hashes; is = f.1.is; calls = λ a. leaves.calls a k ne ∙ f.1.calls a },
       leaves.rows k ne ∙ f.2,
     )
 
-    pub map_on : (map : Option (Map S)) → KnowsMap same hash s map → KnowsMap same hash next map
-    map_on None f = tt
-    map_on (Some map) f = let g = leaves.maps map.number f.0 f.1 in (g.0, g.1, g.2 ∙ f.2, g.3 ∙ f.3)
+    -- a map that has not ended
+    abbrev pub Lasts : Option (Map S) → Type 0
+    Lasts None = Unit {0}
+    Lasts (Some map) = leaves.ends ≡ Some map.number → ⊥
+
+    pub map_on : (map : Option (Map S)) → Lasts map → KnowsMap same hash s map → KnowsMap same hash next map
+    map_on None lasts f = tt
+    map_on (Some map) lasts f = let g = leaves.maps map.number f.0 lasts f.1 in (g.0, g.1, g.2 ∙ f.2, g.3 ∙ f.3)
+
+    -- where none has ended
+    pub all_last : leaves.ends ≡ None → (map : Option (Map S)) → Lasts map
+    all_last none None = tt
+    all_last none (Some map) = λ e. cc (none, e)
 
     pair_on : (k : ℕ) → k ≢ i → (map : Option (Map S)) (work : SeatWork K V S) (runs : List (BegunCall K V)) → KnowsPair same hash s k map work runs → KnowsPair same hash next k map work runs
     pair_on k ne map Nothing runs f = tt
-    pair_on k ne map (Makes m hasher opening) runs f = tt
+    pair_on k ne map (Makes mine m hasher opening) runs f = tt
+    pair_on k ne map (Ends machine) runs f = tt
     pair_on k ne None (Calls p) runs f = tt
     pair_on k ne (Some map) (Calls p) runs f = λ u is. f u (sym (leaves.calls map.number k ne) ∙ is)
 
     -- what is held for a caller
     module _ (k : ℕ) (ne : k ≢ i) (under : Option (ℕ × ℕ)) (slot : SlotView (Node K V)) (within : (a : ℕ) → section_of under slot ≡ Some a → IsTheirs a)
-        (inside : (a : ℕ) → section_of under slot ≡ Some a → IsInside (s.world.uses a)) (work : SeatWork K V S)
+        (inside : (a : ℕ) → section_of under slot ≡ Some a → IsInside (s.world.uses a)) (map : Option (Map S)) (stands : Lasts map) (knows : KnowsMap same hash s map) (work : SeatWork K V S)
         (lasts : (b : ℕ) (x : Node K V) → value_at s.world.memory b ≡ Some x → IsOfCall same hash work b → value_at next.world.memory b ≡ Some x) where
-      look_on : (look : ℕ × Node K V) → value_at s.world.memory look.0 ≡ Some look.1 → IsInSection same hash s under slot look.0 ⊎ IsOfCall same hash work look.0
-          → IsHeld same hash next under slot work look
-      look_on look is (inl (a, section, held, over)) =
-          let g = leaves.held a look.0 (within a section) (inside a section) held over in (g.2 ∙ is, inl (a, section, g.0, g.1))
+      section_held : (known : Option (Map S)) → map ≡ known → (b a : ℕ) → section_of under slot ≡ Some a → holds a b s.world.log ≡ true → IsOfMap known b s.world
+          → (holds a b next.world.log ≡ true) × IsOfMap known b next.world × (value_at next.world.memory b ≡ value_at s.world.memory b)
+      section_held None e b a section held of = absurd of
+      section_held (Some it) e b a section held of =
+          let known = subst (λ (o : Option (Map S)). KnowsMap same hash s o) e knows in
+          let g = leaves.held a b it.number known.0 (within a section) (inside a section) (subst Lasts e stands) known.1 (of ∙ ap (λ (x : Setting). x.counter) (sym known.2)) held in
+          (g.0, g.1 ∙ of, g.2)
+
+      look_on : (look : ℕ × Node K V) → value_at s.world.memory look.0 ≡ Some look.1 → IsInSection same hash s under slot map look.0 ⊎ IsOfCall same hash work look.0
+          → IsHeld same hash next under slot map work look
+      look_on look is (inl (a, section, held, of)) =
+          let g = section_held map refl look.0 a section held of in (g.2 ∙ is, inl (a, section, g.0, g.1))
       look_on look is (inr of) = (lasts look.0 look.1 is of, inr of)
 
-      pub held_on : (looks : List (ℕ × Node K V)) → AllHeld same hash s under slot work looks → AllHeld same hash next under slot work looks
+      pub held_on : (looks : List (ℕ × Node K V)) → AllHeld same hash s under slot map work looks → AllHeld same hash next under slot map work looks
       held_on [] f = tt
       held_on (look ∷ looks) f = let h = f.0 in (look_on look h.0 h.1, held_on looks f.1)
 
@@ -235,15 +262,16 @@ module _ {K V S : Type 0} (same : K → K → Bool) (hash : S → K → ℕ) whe
     pub fits_on : (j : ℕ) (v : View K V S) → j ≢ id → AreTheirs (use_of v.slot) → ((a : ℕ) → section_of v.under v.slot ≡ Some a → IsTheirs a)
         → ((a : ℕ) → section_of v.under v.slot ≡ Some a → IsInside (s.world.uses a))
         → ((b : ℕ) (x : Node K V) → value_at s.world.memory b ≡ Some x → IsOfCall same hash v.work b → value_at next.world.memory b ≡ Some x)
-        → Fits same hash s j v → Fits same hash next j v
-    fits_on j v ne apart within inside lasts f = record {
+        → Lasts v.map → Lasts v.own → Fits same hash s j v → Fits same hash next j v
+    fits_on j v ne apart within inside lasts stands owns f = record {
       slot = f.slot;
       does = does_on (caller_at j (acts_in v.under v.slot)) (λ e. ne (seat_apart j id (acts_in v.under v.slot) t f.slot its_slot e)) v.under v.slot apart within v.map v.work f.does;
       aside = f.aside;
-      map = map_on v.map f.map;
+      map = map_on v.map stands f.map;
+      own = map_on v.own owns f.own;
       only = f.only;
       held =
-          held_on (caller_at j (acts_in v.under v.slot)) (λ e. ne (seat_apart j id (acts_in v.under v.slot) t f.slot its_slot e)) v.under v.slot within inside v.work lasts v.held f.held;
+          held_on (caller_at j (acts_in v.under v.slot)) (λ e. ne (seat_apart j id (acts_in v.under v.slot) t f.slot its_slot e)) v.under v.slot within inside v.map stands f.map v.work lasts v.held f.held;
       pair = pair_on (caller_at j (acts_in v.under v.slot)) (λ e. ne (seat_apart j id (acts_in v.under v.slot) t f.slot its_slot e)) v.map v.work v.calls f.pair;
       idle = λ a is other. unborn_on j a ne is (f.idle a is other);
     }

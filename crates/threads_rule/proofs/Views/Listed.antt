@@ -1,17 +1,15 @@
 -- What a list of acts tells, with one act more.
-use Rattle.std.specs.Prelude.{◌≢◌, ◌==◌, ◌++◌, length, suc, Option, Some, if◌then◌else◌}
+use Rattle.std.specs.Prelude.{◌≢◌, ◌==◌, ◌++◌, length, suc, Option, if◌then◌else◌}
 use Rattle.std.proofs.Common.{◌≡◌, ℕ, ◌+◌, Bool, List, [], ◌∷◌, refl, sym, subst, ap, ◌∙◌, arith}
 use Rattle.std.proofs.lemmas.Bool.{eq-eqb, ne_eqb}
 use Rattle.seize_words.specs.OneMemory.Mem.{Mem}
 use Rattle.map_tables.specs.declared.node.Node.{Node}
 use Rattle.papaya_raw.specs.declared.machines.progress.Progress.{Progress}
-use Rattle.many_acts.specs.Given.FinishesMaps.{Standing}
-use Rattle.many_acts.specs.Given.ScenesScene.{Scene}
 use Rattle.many_acts.specs.Acts.Acts.{Answer, BeginsCall, StepsCall, TellsCall, AsksCall, StopsCall, BeginsMaking, StepsMaking, BeginsEnding, StepsEnding, BeginsRow, StepsRow}
 use Rattle.many_acts.specs.Acts.Doings.{Doing, Does, BeginsReclaiming, BeginsClearing, StepsReclaiming, Chooses, MayDo}
 use Rattle.many_acts.specs.Acts.Lists.{Course, Reached, LedOn, LedTo, nothing_done, on_by}
 use Rattle.threads_rule.specs.Views.Listed.{Called, calls_then, calls_of, has_progressed, seen_then, seen_of, AreNumbered, IsNewest, seat_of}
-use Rattle.threads_rule.specs.Views.Rule.{IsSlot, IsRun, AreRuns, caller_at}
+use Rattle.threads_rule.specs.Views.Rule.{IsSlot, AreRuns, caller_at}
 use Rattle.threads_rule.specs.Views.Told.{newest_progress}
 use Rattle.threads_rule.specs.declared.view.BegunCall.{BegunCall}
 use Rattle.seize_words.proofs.General.{nothing_and as none_before}
@@ -94,35 +92,14 @@ module _ {K S : Type 0} (V : Type 0) (same : K → K → Bool) (hash : S → K �
   pub as_long : (doings : List (Doing K V S)) (y : Reached V same hash batch_size roots slot) → LedTo V same hash batch_size roots slot course doings y → length y.1 ≡ length doings
   as_long doings y led = as_many doings (nothing_done V same hash batch_size roots slot course) y led ∙ none_before (length doings)
 
-module _ {K V S : Type 0} (same : K → K → Bool) (hash : S → K → ℕ) (s n : Scene K V)
-    (maps : (m : ℕ) (r : Standing K) → s.maps m ≡ Some r → (r2 : Standing K) × (n.maps m ≡ Some r2) × (r2.setting ≡ r.setting) × (r2.hash ≡ r.hash)) where
-  -- what is known of the calls of a seat is so on where maps stand on
-  run_on : (call : Called K V) (run : BegunCall K V) → IsRun same hash s call run → IsRun same hash n call run
-  run_on call run is =
-      let g = maps is.map.number is.stands.0 is.stands.1 in
-      record {
-        map = is.map;
-        stands = (g.0, g.1, g.2 ∙ is.stands.2, g.3 ∙ is.stands.3);
-        number = is.number;
-        plainly = is.plainly;
-        began = is.began;
-        told = is.told;
-      }
-
-  pub runs_on : (calls : List (Called K V)) (runs : List (BegunCall K V)) → AreRuns same hash s calls runs → AreRuns same hash n calls runs
-  runs_on [] [] are = tt
-  runs_on (call ∷ calls) (run ∷ runs) are = (run_on call run are.0, runs_on calls runs are.1)
-  runs_on [] (run ∷ runs) are = are
-  runs_on (call ∷ calls) [] are = are
-
-module _ {K V S : Type 0} (same : K → K → Bool) (hash : S → K → ℕ) (s : Scene K V) (i : ℕ) (told : Progress (Node K V)) where
+module _ {K V S : Type 0} (same : K → K → Bool) (hash : S → K → ℕ) (i : ℕ) (told : Progress (Node K V)) where
   -- where the newest one, which is this caller's, has told this
-  pub newest_runs : (calls : List (Called K V)) (runs : List (BegunCall K V)) → IsNewest i calls → AreRuns same hash s calls runs → AreRuns same hash s (has_progressed i told calls) (newest_progress told runs)
+  pub newest_runs : (calls : List (Called K V)) (runs : List (BegunCall K V)) → IsNewest i calls → AreRuns same hash calls runs → AreRuns same hash (has_progressed i told calls) (newest_progress told runs)
   newest_runs [] runs newest are = absurd newest
   newest_runs (call ∷ calls) [] newest are = absurd are
   newest_runs (call ∷ calls) (run ∷ runs) newest are =
-      subst (λ (q : Bool). AreRuns same hash s (if q then record call { told = told } ∷ calls else call ∷ has_progressed i told calls) (record run { told = told } ∷ runs)) (sym (eq-eqb call.caller i newest))
-      (record { map = are.0.map; stands = are.0.stands; number = are.0.number; plainly = are.0.plainly; began = are.0.began; told = refl }, are.1)
+      subst (λ (q : Bool). AreRuns same hash (if q then record call { told = told } ∷ calls else call ∷ has_progressed i told calls) (record run { told = told } ∷ runs)) (sym (eq-eqb call.caller i newest))
+      (record { map = are.0.map; number = are.0.number; its = are.0.its; plainly = are.0.plainly; began = are.0.began; told = refl }, are.1)
 
 -- the newest one is on that caller's
 pub newest_on : {K V : Type 0} (i : ℕ) (told : Progress (Node K V)) (calls : List (Called K V)) → IsNewest i calls → IsNewest i (has_progressed i told calls)

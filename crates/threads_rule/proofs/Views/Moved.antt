@@ -1,10 +1,12 @@
 -- An act of a seat makes the rule hold again, where it has left what the other seats know.
 use Rattle.std.specs.Prelude.{◌≢◌, ◌++◌, length, Option, Some, None, slice_get, slice_set}
-use Rattle.std.proofs.Common.{◌≡◌, ℕ, Bool, List, [], ◌∷◌, ◌⊎◌, inl, inr, refl, sym, subst, ap, ◌∙◌}
+use Rattle.std.proofs.Common.{◌≡◌, ℕ, Bool, true, List, [], ◌∷◌, ◌⊎◌, inl, inr, refl, sym, subst, ap, ◌∙◌}
 use Rattle.std.proofs.lemmas.Bool.{cases_eq}
 use Rattle.seize_words.specs.OneMemory.Mem.{Mem}
+use Rattle.seize.specs.Law.{holds}
 use Rattle.seize.specs.World.{Use, Inside, IsInside}
 use Rattle.map_tables.specs.declared.node.Node.{Node}
+use Rattle.map_tables.specs.declared.setting.Setting.{Setting}
 use Rattle.papaya_raw.specs.declared.machines.machine.Machine.{Machine}
 use Rattle.many_acts.specs.Given.CallersTogether.{CameAbout}
 use Rattle.many_acts.specs.Given.ScenesScene.{Scene, slot_of}
@@ -18,14 +20,15 @@ use Rattle.seize_views.specs.Views.Rows.{use_of}
 use Rattle.seize_views.specs.declared.view.Fixed.{Fixed}
 use Rattle.seize_views.proofs.Views.Lists.{there, elsewhere}
 use Rattle.threads_rule.specs.Views.Listed.{Called, calls_then, calls_of, seen_then, seen_of, AreNumbered, IsItsOwn, IsNewest}
-use Rattle.threads_rule.specs.Views.Rule.{MapsWorld, IsSlot, IsIdle, Fits, AreSo, KnowsRow, AreRuns, HasSeen, Holds, KeepsFor, IsLeant, LeansOn, Leans, caller_at, acts_in, section_of, place_of, runs_of, IsFresh}
+use Rattle.threads_rule.specs.Views.Rule.{MapsWorld, IsSlot, IsIdle, KnowsMap, IsOfMap, IsOwner, AreApart, IsBy, Fits, AreSo, KnowsRow, AreRuns, HasSeen, Holds, KeepsFor, IsLeant, LeansOn, LeansUnder, Leans, caller_at, acts_in, section_of, place_of, runs_of, IsFresh}
 use Rattle.threads_rule.specs.declared.view.BegunCall.{BegunCall}
+use Rattle.threads_rule.specs.declared.view.Map.{Map}
 use Rattle.threads_rule.specs.declared.view.View.{View}
 use Rattle.threads_rule.specs.declared.view.SeatWork.TheVariants.{Nothing, Calls}
 use Rattle.threads_rule.proofs.Views.Alone.{alone_on_slot}
 use Rattle.threads_rule.proofs.Views.Knows.{row_of_it, by_kind, knows_on}
-use Rattle.threads_rule.proofs.Views.Listed.{as_long, calls_more, led_more, runs_on}
-use Rattle.threads_rule.proofs.Views.Leaves.{Leaves, own_section, section_inside, inside_of, unborn_on, fits_on}
+use Rattle.threads_rule.proofs.Views.Listed.{as_long, calls_more, led_more}
+use Rattle.threads_rule.proofs.Views.Leaves.{Leaves, Lasts, own_section, section_inside, inside_of, unborn_on, fits_on}
 use Rattle.threads_rule.proofs.Views.Lasts.{of_call_lasts}
 use Rattle.threads_rule.proofs.Views.Numbers.{seat_apart}
 use Rattle.seize_words.proofs.General.{same_some, all_and_one as all_more}
@@ -40,6 +43,32 @@ module _ {K V S : Type 0} (same : K → K → Bool) (hash : S → K → ℕ) (fi
   pub are_so : AreSo same hash s scene_of
   are_so = subst (λ (x : Scene K V). AreSo same hash s x) h.scene h.so
 
+  -- What a seat knows of maps after an act it knew before, or it is of a map that did not stand; and the map that is its own is so still, or nobody leans on it for that.
+  pub record KnowsThen (id : ℕ) (x w : View K V S) : Type 0 where
+    pub by : (n : ℕ) → w.by ≡ Some n → (x.by ≡ Some n) × (w.map ≡ x.map)
+    pub own : (w.own ≡ x.own) ⊎ ((j : ℕ) (y : View K V S) → view_of s j ≡ Some y → y.by ≡ Some id → ⊥)
+    pub map : (a : Map S) → w.map ≡ Some a → ((x.map ≡ Some a) × (w.by ≡ x.by)) ⊎ (scene_of.maps a.number ≡ None)
+    pub mine : (a : Map S) → w.own ≡ Some a → (x.own ≡ Some a) ⊎ (scene_of.maps a.number ≡ None)
+    pub apart : (a b : Map S) → w.map ≡ Some a → w.own ≡ Some b → (x.map ≡ Some a) ⊎ (x.own ≡ Some b)
+
+  -- it knows what it knew
+  pub knows_alike : (id : ℕ) (v w : View K V S) → view_of s id ≡ Some v → w.map ≡ v.map → w.by ≡ v.by → w.own ≡ v.own → (x : View K V S) → view_of s id ≡ Some x → KnowsThen id x w
+  knows_alike id v w at_id map by own x at = subst (λ (y : View K V S). KnowsThen id y w) (same_some v x (sym at_id ∙ at)) (record {
+    by = λ n e. (sym by ∙ e, map);
+    own = inl own;
+    map = λ a e. inl (sym map ∙ e, by);
+    mine = λ a e. inl (sym own ∙ e);
+    apart = λ a b e g. inl (sym map ∙ e);
+  })
+
+  -- who leans on a seat for a map leans on the owner of one
+  pub nobody_by : (id : ℕ) (v : View K V S) → view_of s id ≡ Some v → v.own ≡ None → (j : ℕ) (y : View K V S) → view_of s j ≡ Some y → y.by ≡ Some id → ⊥
+  nobody_by id v at_id none j y at e = no_owner y.map (are_so.owned j id y at e)
+    where
+      no_owner : (o : Option (Map S)) → IsOwner (view_of s) id o → ⊥
+      no_owner None base = base
+      no_owner (Some a) base = let its = ap (λ (x : View K V S). x.own) (same_some v base.0 (sym at_id ∙ base.1)) in let owns = base.2 in cc (none, its, owns)
+
   -- The seat has come to this view and this scene by this act, as the caller that it is in this place, and the others know what they knew: what changes of slots is its own.
   pub record Moved (id : ℕ) (act : Act K V S) (m : Mem (Node K V)) (w : View K V S) (n : Scene K V) : Type 0 where
     pub memory : m ≡ n.world.memory
@@ -51,7 +80,9 @@ module _ {K V S : Type 0} (same : K → K → Bool) (hash : S → K → ℕ) (fi
     pub theirs : (j t : ℕ) (a b : Use) (x : View K V S) → j ≢ id → view_of s j ≡ Some x → use_of x.slot ≡ Some (t, a) → mine ≡ Some (t, b) → ⊥
     pub alone : (j t : ℕ) (a b : Use) (x : View K V S) → j ≢ id → view_of s j ≡ Some x → use_of x.slot ≡ Some (t, a) → use_of w.slot ≡ Some (t, b) → ⊥
     pub under : (x : View K V S) → view_of s id ≡ Some x → w.under ≡ x.under
-    pub leant : ((mine ≡ None) × ((x : View K V S) → view_of s id ≡ Some x → w.slot ≡ x.slot)) ⊎ IsUnlent Leans id s
+    pub knows : (x : View K V S) → view_of s id ≡ Some x → KnowsThen id x w
+    pub gone : (m : ℕ) → leaves.ends ≡ Some m → IsUnlent Leans id s × ((x : View K V S) → view_of s id ≡ Some x → (b : Map S) × (x.own ≡ Some b) × (b.number ≡ m))
+    pub leant : ((mine ≡ None) × ((x : View K V S) → view_of s id ≡ Some x → w.slot ≡ x.slot)) ⊎ IsUnlent LeansUnder id s
     pub fresh : (k : ℕ) × IsFresh n k × AreNumbered 0 (s.world.doings ++ Does act ∷ []) k
     pub row : KnowsRow fixed n id w.slot
 
@@ -60,7 +91,7 @@ module _ {K V S : Type 0} (same : K → K → Bool) (hash : S → K → ℕ) (fi
   pub record Adds (id : ℕ) (act : Act K V S) (told : Answer K V) (v w : View K V S) (n : Scene K V) (calls : List (Called K V)) : Type 0 where
     pub own : IsItsOwn hash (Does act)
     pub others : (j : ℕ) → j ≢ id → (theirs : List (Called K V)) → calls_then j (Does act) told theirs ≡ theirs
-    pub its : AreRuns same hash n calls v.calls → AreRuns same hash n (calls_then id (Does act) told calls) w.calls
+    pub its : AreRuns same hash calls v.calls → AreRuns same hash (calls_then id (Does act) told calls) w.calls
     pub newest : (machine : Machine K V K) → w.work ≡ Calls machine → IsNewest (caller_at id (acts_in w.under w.slot)) (calls_then id (Does act) told calls)
     pub aside : (j : ℕ) → j ≢ id → (theirs : Option (ℕ × Mem (Node K V))) → seen_then j (Does act) n.world.memory theirs ≡ theirs
     pub seen : (before : Option (ℕ × Mem (Node K V)))
@@ -135,6 +166,22 @@ module _ {K V S : Type 0} (same : K → K → Bool) (hash : S → K → ℕ) (fi
     within : (j : ℕ) (x : View K V S) → view_of s j ≡ Some x → (a : ℕ) → section_of x.under x.slot ≡ Some a → IsInside (scene_of.world.uses a)
     within j x at a section = section_inside same hash scene_of (view_of s) are_so.seats are_so.leant j x at a section
 
+    -- the map that ends is known to nobody else
+
+    knew : KnowsThen id v w
+    knew = go.knows v at_id
+
+    map_lasts : (j : ℕ) (x : View K V S) → j ≢ id → view_of s j ≡ Some x → (o : Option (Map S)) → x.map ≡ o → Lasts same hash scene_of n id go.place go.its_slot fixed.batch_size go.mine go.leaves o
+    map_lasts j x ne at None e = tt
+    map_lasts j x ne at (Some a) e = λ ends.
+        let g = go.gone a.number ends in
+        let b = g.1 v at_id in
+        g.0 j x at (inr (subst (λ (o : Option ℕ). IsBy o id) (sym ((are_so.maps j id x v b.0 at at_id b.1).known a e (sym b.2))) refl))
+
+    own_lasts : (j : ℕ) (x : View K V S) → j ≢ id → view_of s j ≡ Some x → (o : Option (Map S)) → x.own ≡ o → Lasts same hash scene_of n id go.place go.its_slot fixed.batch_size go.mine go.leaves o
+    own_lasts j x ne at None e = tt
+    own_lasts j x ne at (Some a) e = λ ends. let b = (go.gone a.number ends).1 v at_id in ne ((are_so.maps j id x v b.0 at at_id b.1).owned a e (sym b.2))
+
     seats : (j : ℕ) (x : View K V S) → slice_get (slice_set s.views id w) j ≡ Some x → (j ≡ id) ⊎ (j ≢ id) → Fits same hash n j x
     seats j x at (inl e) =
         subst (λ (y : View K V S). Fits same hash n j y) (same_some w x (sym (here j e) ∙ at)) (subst (λ (a : ℕ). Fits same hash n a w) (sym e) go.own)
@@ -146,7 +193,7 @@ module _ {K V S : Type 0} (same : K → K → Bool) (hash : S → K → ℕ) (fi
         let f = are_so.seats j x at_j in
         of_call_lasts same hash fixed.batch_size fixed.roots scene_of n all_stand came (caller_at id go.place) go.mine go.leaves (caller_at j (acts_in x.under x.slot))
         (λ e. ne (seat_apart j id (acts_in x.under x.slot) go.place f.slot go.its_slot e)) b y is x.under x.slot x.map x.work f.does f.map of)
-        (are_so.seats j x at_j)
+        (map_lasts j x ne at_j x.map refl) (own_lasts j x ne at_j x.own refl) (are_so.seats j x at_j)
 
     unborn : (j a : ℕ) → IsSlot a → slice_get (slice_set s.views id w) j ≡ None → (j ≡ id) ⊎ (j ≢ id) → IsIdle n (caller_at j a)
     unborn j a is at (inl e) = let f = here j e in absurd (cc (f, at))
@@ -167,12 +214,113 @@ module _ {K V S : Type 0} (same : K → K → Bool) (hash : S → K → ℕ) (fi
     abbrev after : MapsWorld K V S
     after = record { doings = s.world.doings ++ Does act ∷ []; scene = n }
 
-    kept : (j b : ℕ) (x o : View K V S) → j ≢ id → view_of s j ≡ Some x → KeepsFor x o s.world b → KeepsFor x o after b
-    kept j b x o ne at keeps =
-        let k = subst (λ (y : Scene K V). KeepsFor x o (record { doings = s.world.doings; scene = y }) b) h.scene keeps in
-        let is = inside_of same hash scene_of j k.0 x k.1 (are_so.seats j x at) k.2 in
-        let theirs : (u : Use) → go.mine ≡ Some (k.0, u) → ⊥ = λ u. go.theirs j k.0 (Inside 0) u x ne at (ap use_of k.2) in
-        let g = go.leaves.held k.0 b theirs is k.3 k.4 in (k.0, k.1, k.2, g.0, g.1)
+    of_map : (o : Option (Map S)) → Lasts same hash scene_of n id go.place go.its_slot fixed.batch_size go.mine go.leaves o → KnowsMap same hash scene_of o → (t b : ℕ)
+        → ((u : Use) → go.mine ≡ Some (t, u) → ⊥) → IsInside (scene_of.world.uses t) → holds t b scene_of.world.log ≡ true → IsOfMap o b scene_of.world
+        → (holds t b n.world.log ≡ true) × IsOfMap o b n.world
+    of_map None lasts known t b theirs is held of = absurd of
+    of_map (Some a) lasts known t b theirs is held of =
+        let g = go.leaves.held t b a.number known.0 theirs is lasts known.1 (of ∙ ap (λ (x : Setting). x.counter) (sym known.2)) held in (g.0, g.1 ∙ of)
+
+    kept : (j k b : ℕ) (x o : View K V S) → j ≢ id → k ≢ id → view_of s j ≡ Some x → view_of s k ≡ Some o → KeepsFor x o s.world b → KeepsFor x o after b
+    kept j k b x o ne ne2 at at_k keeps = by keep.4
+      where
+        keep : KeepsFor x o (record { doings = s.world.doings; scene = scene_of }) b
+        keep = subst (λ (y : Scene K V). KeepsFor x o (record { doings = s.world.doings; scene = y }) b) h.scene keeps
+
+        is : IsInside (scene_of.world.uses keep.0)
+        is = inside_of same hash scene_of j keep.0 x keep.1 (are_so.seats j x at) keep.2
+
+        theirs : (u : Use) → go.mine ≡ Some (keep.0, u) → ⊥
+        theirs = λ u. go.theirs j keep.0 (Inside 0) u x ne at (ap use_of keep.2)
+
+        by : IsOfMap o.map b scene_of.world ⊎ IsOfMap o.own b scene_of.world → KeepsFor x o after b
+        by (inl of) =
+            let g = of_map o.map (map_lasts k o ne2 at_k o.map refl) (are_so.seats k o at_k).map keep.0 b theirs is keep.3 of in (keep.0, keep.1, keep.2, g.0, inl g.1)
+        by (inr of) =
+            let g = of_map o.own (own_lasts k o ne2 at_k o.own refl) (are_so.seats k o at_k).own keep.0 b theirs is keep.3 of in (keep.0, keep.1, keep.2, g.0, inr g.1)
+
+    -- on whom somebody leans that one has the map still
+
+    is_owner : (j : ℕ) (x : View K V S) (m : ℕ) → view_of s j ≡ Some x → x.by ≡ Some m → (o : Option (Map S)) → IsOwner (view_of s) m o → IsOwner (λ k. slice_get (slice_set s.views id w) k) m o
+    is_owner j x m at e None base = absurd base
+    is_owner j x m at e (Some a) base = by (cases_eq m id)
+      where
+        by : (m ≡ id) ⊎ (m ≢ id) → IsOwner (λ k. slice_get (slice_set s.views id w) k) m (Some a)
+        by (inr ne) = (base.0, sym (before m ne) ∙ base.1, base.2)
+        by (inl one) =
+            let its : v ≡ base.0 = same_some v base.0 (sym at_id ∙ ap (view_of s) (sym one) ∙ base.1) in
+            elim knew.own as (λ _. IsOwner (λ k. slice_get (slice_set s.views id w) k) m (Some a)) [
+              | inl same ↦ (w, here m one, same ∙ ap (λ (y : View K V S). y.own) its ∙ base.2)
+              | inr nobody ↦ absurd (nobody j x at (e ∙ ap (λ (a : ℕ). Some a) one))
+            ]
+
+    owned : (j m : ℕ) (x : View K V S) → slice_get (slice_set s.views id w) j ≡ Some x → x.by ≡ Some m → (j ≡ id) ⊎ (j ≢ id) → IsOwner (λ k. slice_get (slice_set s.views id w) k) m x.map
+    owned j m x at e (inr ne) = let at_j = before j ne ∙ at in is_owner j x m at_j e x.map (are_so.owned j m x at_j e)
+    owned j m x at e (inl one) =
+        let is = same_some w x (sym (here j one) ∙ at) in
+        let k = knew.by m (ap (λ (y : View K V S). y.by) is ∙ e) in
+        subst (λ (o : Option (Map S)). IsOwner (λ k. slice_get (slice_set s.views id w) k) m o) (sym k.1 ∙ ap (λ (y : View K V S). y.map) is)
+        (is_owner id v m at_id k.0 v.map (are_so.owned id m v at_id k.0))
+
+    -- a map that did not stand was known to nobody
+
+    none_stood : (o : Option (Map S)) → KnowsMap same hash scene_of o → (a b : Map S) → o ≡ Some a → scene_of.maps b.number ≡ None → a.number ≡ b.number → ⊥
+    none_stood None known a b e none same_number = cc e
+    none_stood (Some c) known a b e none same_number =
+        let there = known.1 in let number : c.number ≡ b.number = ap (λ (y : Map S). y.number) (same_some c a e) ∙ same_number in
+        let here = ap scene_of.maps (sym number) ∙ there in cc (none, here)
+
+    apart_then : (j k : ℕ) (x y : View K V S) (mine : Map S) → slice_get (slice_set s.views id w) j ≡ Some x → slice_get (slice_set s.views id w) k ≡ Some y → y.own ≡ Some mine
+        → (j ≡ id) ⊎ (j ≢ id) → (k ≡ id) ⊎ (k ≢ id) → AreApart j k x y mine
+    apart_then j k x y mine at at2 e (inr ne) (inr ne2) = are_so.maps j k x y mine (before j ne ∙ at) (before k ne2 ∙ at2) e
+    apart_then j k x y mine at at2 e (inr ne) (inl one) =
+        let at_j = before j ne ∙ at in
+        let is = same_some w y (sym (here k one) ∙ at2) in
+        let f = are_so.seats j x at_j in
+        elim (knew.mine mine (ap (λ (z : View K V S). z.own) is ∙ e)) as (λ _. AreApart j k x y mine) [
+          | inl had ↦
+              let base = are_so.maps j id x v mine at_j at_id had in
+              record { known = λ a g number. base.known a g number ∙ ap (λ (c : ℕ). Some c) (sym one); owned = λ a g number. base.owned a g number ∙ sym one }
+          | inr none ↦ record {
+            known = λ a g number. absurd (none_stood x.map f.map a mine g none number);
+            owned = λ a g number. absurd (none_stood x.own f.own a mine g none number);
+          }
+        ]
+    apart_then j k x y mine at at2 e (inl one) (inr ne) =
+        let at_k = before k ne ∙ at2 in
+        let is = same_some w x (sym (here j one) ∙ at) in
+        let f = are_so.seats k y at_k in
+        let base = are_so.maps id k v y mine at_id at_k e in
+        record {
+          known = λ a g number. elim (knew.map a (ap (λ (z : View K V S). z.map) is ∙ g)) as (λ _. x.by ≡ Some k) [
+            | inl had ↦ ap (λ (z : View K V S). z.by) (sym is) ∙ had.1 ∙ base.known a had.0 number
+            | inr none ↦ absurd (none_stood y.own f.own mine a e none (sym number))
+          ];
+          owned = λ a g number. elim (knew.mine a (ap (λ (z : View K V S). z.own) is ∙ g)) as (λ _. j ≡ k) [
+            | inl had ↦ one ∙ base.owned a had number
+            | inr none ↦ absurd (none_stood y.own f.own mine a e none (sym number))
+          ];
+        }
+    apart_then j k x y mine at at2 e (inl one) (inl other) =
+        let is = same_some w x (sym (here j one) ∙ at) in
+        let is2 = same_some w y (sym (here k other) ∙ at2) in
+        let f = are_so.seats id v at_id in
+        record {
+          known = λ a g number. known a (ap (λ (z : View K V S). z.map) is ∙ g) (ap (λ (z : View K V S). z.own) is2 ∙ e) number (ap (λ (z : View K V S). z.by) is) f (knew.map a (ap (λ (z : View K V S). z.map) is ∙ g))
+              (knew.mine mine (ap (λ (z : View K V S). z.own) is2 ∙ e));
+          owned = λ a g number. one ∙ sym other;
+        }
+      where
+        known : (a : Map S) → w.map ≡ Some a → w.own ≡ Some mine → a.number ≡ mine.number → w.by ≡ x.by → Fits same hash scene_of id v
+            → ((v.map ≡ Some a) × (w.by ≡ v.by)) ⊎ (scene_of.maps a.number ≡ None) → (v.own ≡ Some mine) ⊎ (scene_of.maps mine.number ≡ None) → x.by ≡ Some k
+        known a g e2 number same_by f (inl had) (inl was) =
+            sym same_by ∙ had.1 ∙ (are_so.maps id id v v mine at_id at_id was).known a had.0 number ∙ ap (λ (c : ℕ). Some c) (sym other)
+        known a g e2 number same_by f (inl had) (inr none) = absurd (none_stood v.map f.map a mine had.0 none number)
+        known a g e2 number same_by f (inr none) (inl was) = absurd (none_stood v.own f.own mine a was none (sym number))
+        known a g e2 number same_by f (inr none) (inr none2) = elim (knew.apart a mine g e2) as (λ _. x.by ≡ Some k) [
+          | inl had ↦ absurd (none_stood v.map f.map a mine had none2 number)
+          | inr was ↦ absurd (none_stood v.own f.own mine a was none (sym number))
+        ]
 
     -- what each seat knows of its row
 
@@ -219,20 +367,18 @@ module _ {K V S : Type 0} (same : K → K → Bool) (hash : S → K → ℕ) (fi
     more : (j : ℕ) → calls_of j (s.world.doings ++ Does act ∷ []) led_to.1 [] ≡ calls_then j (Does act) told (calls_before j)
     more j = calls_more j s.world.doings h.reached.1 (Does act) told [] long
 
-    still : (j : ℕ) → AreRuns same hash n (calls_before j) (runs_of (view_of s j))
-    still j =
-        runs_on same hash scene_of n go.leaves.maps (calls_before j) (runs_of (view_of s j))
-        (subst (λ (x : Scene K V). AreRuns same hash x (calls_before j) (runs_of (view_of s j))) h.scene (h.calls j))
+    still : (j : ℕ) → AreRuns same hash (calls_before j) (runs_of (view_of s j))
+    still j = h.calls j
 
-    calls : (j : ℕ) → (j ≡ id) ⊎ (j ≢ id) → AreRuns same hash n (calls_of j (s.world.doings ++ Does act ∷ []) led_to.1 []) (runs_of (slice_get (slice_set s.views id w) j))
+    calls : (j : ℕ) → (j ≡ id) ⊎ (j ≢ id) → AreRuns same hash (calls_of j (s.world.doings ++ Does act ∷ []) led_to.1 []) (runs_of (slice_get (slice_set s.views id w) j))
     calls j (inl e) =
-        subst (λ (runs : List (BegunCall K V)). AreRuns same hash n (calls_of j (s.world.doings ++ Does act ∷ []) led_to.1 []) runs) (ap runs_of (sym (here j e)))
-        (subst (λ (c : List (Called K V)). AreRuns same hash n c w.calls) (sym (more j))
-        (subst (λ (a : ℕ). AreRuns same hash n (calls_then a (Does act) told (calls_before a)) w.calls) (sym e)
-        (adds.its (subst (λ (o : Option (View K V S)). AreRuns same hash n (calls_before id) (runs_of o)) at_id (still id)))))
+        subst (λ (runs : List (BegunCall K V)). AreRuns same hash (calls_of j (s.world.doings ++ Does act ∷ []) led_to.1 []) runs) (ap runs_of (sym (here j e)))
+        (subst (λ (c : List (Called K V)). AreRuns same hash c w.calls) (sym (more j))
+        (subst (λ (a : ℕ). AreRuns same hash (calls_then a (Does act) told (calls_before a)) w.calls) (sym e)
+        (adds.its (subst (λ (o : Option (View K V S)). AreRuns same hash (calls_before id) (runs_of o)) at_id (still id)))))
     calls j (inr ne) =
-        subst (λ (runs : List (BegunCall K V)). AreRuns same hash n (calls_of j (s.world.doings ++ Does act ∷ []) led_to.1 []) runs) (ap runs_of (before j ne))
-        (subst (λ (c : List (Called K V)). AreRuns same hash n c (runs_of (view_of s j))) (sym (more j ∙ adds.others j ne (calls_before j))) (still j))
+        subst (λ (runs : List (BegunCall K V)). AreRuns same hash (calls_of j (s.world.doings ++ Does act ∷ []) led_to.1 []) runs) (ap runs_of (before j ne))
+        (subst (λ (c : List (Called K V)). AreRuns same hash c (runs_of (view_of s j))) (sym (more j ∙ adds.others j ne (calls_before j))) (still j))
 
     newest : (j : ℕ) (x : View K V S) (machine : Machine K V K) → slice_get (slice_set s.views id w) j ≡ Some x → x.work ≡ Calls machine → (j ≡ id) ⊎ (j ≢ id)
         → IsNewest (caller_at j (acts_in x.under x.slot)) (calls_of j (s.world.doings ++ Does act ∷ []) led_to.1 [])
@@ -288,8 +434,9 @@ module _ {K V S : Type 0} (same : K → K → Bool) (hash : S → K → ℕ) (fi
           unborn = λ j a slot at. unborn j a slot at (cases_eq j id);
           leant = λ j m2 t x at e. leant j m2 t x at e (cases_eq j id);
           apart = λ j k t a b x y e f p q. apart j k t a b x y e f p q (cases_eq j id) (cases_eq k id);
+          owned = λ j m x at e. owned j m x at e (cases_eq j id);
+          maps = λ j k x y mine at at2 e. apart_then j k x y mine at at2 e (cases_eq j id) (cases_eq k id);
           fresh = go.fresh;
-          unended = λ o. go.leaves.ended o ∙ are_so.unended o;
         };
         rows = λ j x at. rows j x at (cases_eq j id);
         own = all_more (IsItsOwn hash) s.world.doings (Does act) h.own adds.own;
@@ -297,6 +444,6 @@ module _ {K V S : Type 0} (same : K → K → Bool) (hash : S → K → ℕ) (fi
         newest = λ j x machine at works. newest j x machine at works (cases_eq j id);
         seen = λ j x at. seen j x at (cases_eq j id);
       },
-      λ j k b u o ne ne2 at at2 keeps. kept j b u o ne at keeps,
+      λ j k b u o ne ne2 at at2 keeps. kept j k b u o ne ne2 at at2 keeps,
       is,
     )

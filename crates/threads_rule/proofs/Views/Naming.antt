@@ -14,8 +14,8 @@ use Rattle.papaya_raw.specs.declared.machines.progress.Answer.TheVariants as sai
 use Rattle.papaya_raw.specs.declared.machines.progress.Progress.{Progress}
 use Rattle.papaya_raw.specs.declared.machines.progress.Progress.TheVariants as progress
 use Rattle.seize_views.specs.Views.Told.{FollowsBy}
-use Rattle.threads_rule.specs.CallKinds.Kinds.{PairIsVisible}
-use Rattle.threads_rule.specs.CallKinds.Shows.{AnswerNames, AnswersWith}
+use Rattle.threads_kinds.specs.CallKinds.Kinds.{PairIsVisible}
+use Rattle.threads_kinds.specs.CallKinds.Shows.{AnswerNames, AnswersWith}
 use Rattle.threads_rule.specs.Views.Looks.{shown_in, MayFollow, TurnsTo}
 use Rattle.threads_rule.proofs.Views.Looked.{AllKnown, AllLooked, IsSo, all_known, follows_more, may_more, shown_on, so_with, turns_more}
 

@@ -1,8 +1,9 @@
 -- Where a step of a call has led, its own seat knows what is so.
 use Rattle.std.specs.Prelude.{◌≢◌, Option, Some, None}
-use Rattle.std.proofs.Common.{◌≡◌, ℕ, Bool, ◌⊎◌, inl, inr, refl, sym, subst, ap, ◌∙◌}
+use Rattle.std.proofs.Common.{◌≡◌, ℕ, Bool, true, ◌⊎◌, inl, inr, refl, sym, subst, ap, ◌∙◌}
 use Rattle.std.proofs.lemmas.Bool.{cases_eq}
-use Rattle.seize_words.specs.OneMemory.Mem.{Mem}
+use Rattle.seize_words.specs.OneMemory.Mem.{Mem, value_at}
+use Rattle.seize.specs.Law.{holds, owner_of}
 use Rattle.seize.specs.World.{Rests, IsInside}
 use Rattle.map_tables.specs.Nodes.{deferred_word}
 use Rattle.map_tables.specs.declared.node.Node.{Node}
@@ -27,7 +28,7 @@ use Rattle.threads_rule.specs.declared.view.Map.{Map}
 use Rattle.threads_rule.specs.declared.view.SeatWork.TheVariants.{Calls}
 use Rattle.threads_rule.proofs.Views.Made.{call_keeps}
 use Rattle.threads_rule.proofs.Views.Numbers.{slot_at}
-use Rattle.threads_rule.proofs.Views.Ran.{Ran, ran_stays, ran_ends_none, ran_keeps, ran_passes}
+use Rattle.threads_rule.proofs.Views.Ran.{Ran, ran_stays, ran_keeps, ran_passes}
 use Rattle.threads_rule.proofs.Views.Sections.{calls_ran}
 use Rattle.threads_rule.proofs.Views.Leaves.{Leaves, own_section, section_on, inside_alike, call_here, call_other, call_elsewhere}
 use Rattle.seize_words.proofs.General.{same_some}
@@ -67,11 +68,11 @@ module _ {K V S : Type 0} (same : K → K → Bool) (hash : S → K → ℕ) (ba
       rows = did.rows;
       calls = λ n k ne. call_other s.calls m i did.next n k ne;
       makers = λ k ne. refl;
-      enders = λ k. refl;
+      enders = λ k ne. refl;
       uses = λ a used apart. did.slots.uses a;
-      maps = λ n r is. maps n r is (cases_eq n m);
-      held = λ a b apart is held over. (ran_stays deferred_word batch_size i s.world did.w2 r ran a is).1 b held over;
-      ended = ran_ends_none deferred_word batch_size i s.world did.w2 r ran;
+      ends = None;
+      maps = λ n r lasts is. maps n r is (cases_eq n m);
+      held = λ a b n r2 apart is lasts stood owner held. (ran_stays deferred_word batch_size i s.world did.w2 r ran a is).1 b held;
       made = λ k ne. call_keeps same hash batch_size roots s all m it stands i u m2 machine told did k ne;
       keeps = ran_keeps deferred_word batch_size i s.world did.w2 r ran;
       passes = λ c ne. ran_passes deferred_word batch_size i c ne s.world did.w2 r ran;
@@ -84,6 +85,15 @@ module _ {K V S : Type 0} (same : K → K → Bool) (hash : S → K → ℕ) (ba
             (record it { chart = g.0; blocks = g.1; sights = g.2 }, ap did.maps2 e ∙ g.4, ap (λ (x : Standing K). x.setting) (sym one), ap (λ (x : Standing K). x.hash) (sym one))
         maps n r is (inr ne) =
             let g = subst (λ (o : Option (Standing K)). IsSameMap o (did.maps2 n)) is (did.others n ne) in (record r { blocks = g.0; sights = g.1 }, g.2, refl, refl)
+
+    pub none_ends : step_leaves.ends ≡ None
+    unfolding step_leaves
+    none_ends = refl
+
+    -- what a section holds it holds still
+    pub step_held : (a : ℕ) → IsInside (s.world.uses a) → (b : ℕ) → holds a b s.world.log ≡ true
+        → (holds a b did.w2.log ≡ true) × (owner_of b did.w2.log ≡ owner_of b s.world.log) × (value_at did.w2.memory b ≡ value_at s.world.memory b)
+    step_held a is b held = (ran_stays deferred_word batch_size i s.world did.w2 r ran a is).1 b held
 
     -- no further map has come
     pub step_fresh : (k : ℕ) → IsFresh s k → IsFresh after k

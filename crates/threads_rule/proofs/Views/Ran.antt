@@ -23,7 +23,7 @@ use Rattle.seize_acts.specs.Bounds.Bounds.{IsOfOthers, IsAloneOnSlot, Meanwhile}
 use Rattle.seize_acts.proofs.Bounds.Bounds.Passing.{event_row}
 use Rattle.seize_views.proofs.Views.Steps.{step_keeps}
 use Rattle.seize_views.proofs.Views.Handed.{users_keep}
-use Rattle.threads_rule.proofs.Views.Quiet.{HandsOne, Stayed, SameOwners, users_stay, users_end_none, row_stays, row_ends_none}
+use Rattle.threads_rule.proofs.Views.Quiet.{HandsOne, Stayed, users_stay, row_stays}
 use Rattle.seize_model.proofs.Alone.Histories.UsersTurn.{AreUsers as AllOfUsers}
 
 -- what users do is nobody's row
@@ -62,10 +62,6 @@ module _ {T : Type 0} (defers : T → Option ℕ) (size : ℕ) where
     ran_stays (inl (events, users, runs)) t inside = users_stay defers size events w v r users runs t
     ran_stays (inr step) t inside = row_stays defers size w v i r step t inside
 
-    pub ran_ends_none : Ran i w v → SameOwners defers size w v
-    ran_ends_none (inl (events, users, runs)) = users_end_none defers size events w v users runs
-    ran_ends_none (inr step) = row_ends_none defers size w v i r step
-
     begun_memory : (request : Request) (x : World T) → HandsOne defers size request → Happens defers size (Begin i request) w x → x.memory ≡ w.memory
     begun_memory (Retire s b) x is h = ap (λ (u : World T). u.memory) h.1.2
     begun_memory (Defer' s b t) x is h = ap (λ (u : World T). u.memory) h.1.7
@@ -89,6 +85,17 @@ module _ {T : Type 0} (defers : T → Option ℕ) (size : ℕ) where
   users_pass (e ∷ events) w v is h c alone =
       let next = alone_on c w h.0 (λ k. event_row defers size k e w h.0 (user_of_others k e is.0) h.1) alone in
       (h.0, user_of_others c e is.0, h.1, next, users_pass events h.0 v is.1 h.2 c next)
+
+  -- nor is anybody else's row touched by these events
+  abbrev pub AreNoRows : List (Event T) → Type 0
+  AreNoRows [] = Unit {0}
+  AreNoRows (e ∷ events) = ((j : ℕ) → IsOfOthers j e) × AreNoRows events
+
+  pub no_rows_pass : (events : List (Event T)) (w v : World T) → AreNoRows events → Runs defers size events w v → (c : ℕ) → IsAloneOnSlot c w
+      → Meanwhile defers (IsAloneOnSlot c) size c events w v
+  no_rows_pass [] w v is h c alone = h
+  no_rows_pass (e ∷ events) w v is h c alone =
+      let next = alone_on c w h.0 (λ k. event_row defers size k e w h.0 (is.0 k) h.1) alone in (h.0, is.0 c, h.1, next, no_rows_pass events h.0 v is.1 h.2 c next)
 
   -- a row that retires a block settles on its slot after its first step, too
   module _ (i s b : ℕ) (w v : World T) (r : Reached defers size w) where

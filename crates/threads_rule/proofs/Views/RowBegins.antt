@@ -3,7 +3,7 @@ use Rattle.std.specs.Prelude.{◌++◌, Option, Some, None}
 use Rattle.std.specs.Option.{is_none}
 use Rattle.std.proofs.Common.{◌≡◌, ℕ, Bool, List, [], ◌∷◌, inl, inr, refl, sym, subst, ap, ◌∙◌}
 use Rattle.seize_words.specs.OneMemory.Mem.{Mem, value_at}
-use Rattle.seize.specs.Law.{Effect, holds, is_over}
+use Rattle.seize.specs.Law.{Effect, holds, owner_of}
 use Rattle.seize.specs.World.{World, Rests, Use, Outside, Inside, Begin, Request, Register', Enter', Leave', LeaveOwned, Refresh, Unregister', Retire, Flush, Defer', Begins}
 use Rattle.map_tables.specs.Nodes.{deferred_word}
 use Rattle.map_tables.specs.declared.node.Node.{Node}
@@ -17,7 +17,6 @@ use Rattle.many_acts.specs.Acts.Acts.{BeginsRow}
 use Rattle.many_acts.specs.Acts.Doings.{Does, MayDo}
 use Rattle.many_acts.specs.Acts.Leads.{Led}
 use Rattle.seize_acts.specs.Acts.Acts.{rests}
-use Rattle.seize_acts.specs.Acts.Stays.{how_many, is_end_of_owner}
 use Rattle.seize_acts.specs.Acts.Waits.{SettlesOn}
 use Rattle.seize_seats.specs.Seats.Errands.{IsUnlent}
 use Rattle.seize_seats.specs.Seats.State.{State, view_of, Goes}
@@ -30,11 +29,11 @@ use Rattle.seize_views.specs.declared.view.SlotView.TheVariants as slot_view
 use Rattle.seize_views.specs.declared.view.Why.TheVariants.{Retiring, Ending}
 use Rattle.seize_views.proofs.Views.InWorld.{IsJustSo, IsUsedLike, HasRow as RowIn, Began, BeginsTo, slot_in, HasNoBlock}
 use Rattle.threads_rule.specs.Views.Listed.{AreNumbered}
-use Rattle.threads_rule.specs.Views.Rule.{MapsWorld, IsSlot, IsUsedSo, DoesSo, Holds, KeepsFor, LeansOn, Leans, caller_at, held_slot, acts_in, section_of, place_of}
+use Rattle.threads_rule.specs.Views.Rule.{MapsWorld, IsSlot, IsUsedSo, DoesSo, Holds, KeepsFor, LeansOn, caller_at, held_slot, acts_in, section_of, place_of, LeansUnder}
 use Rattle.threads_rule.specs.declared.view.Map.{Map}
 use Rattle.threads_rule.specs.declared.view.View.{View}
 use Rattle.threads_rule.specs.declared.view.SeatWork.{SeatWork}
-use Rattle.threads_rule.specs.declared.view.SeatWork.TheVariants.{Nothing, Calls, Makes}
+use Rattle.threads_rule.specs.declared.view.SeatWork.TheVariants.{Nothing, Calls, Makes, Ends}
 use Rattle.threads_rule.proofs.Views.Alone.{alone_on_slot, lone_on}
 use Rattle.threads_rule.proofs.Views.Exact.{none_inside, none_outside}
 use Rattle.threads_rule.proofs.Views.Leaves.{Leaves, own_section}
@@ -107,7 +106,7 @@ module _ {T : Type 0} (n : World T) where
   just_alike (Some slot) is = subst (λ (u : Use). IsUsedAlike slot.1 u) (sym is) (alike_same slot.1)
 
 module _ {K V S : Type 0} (same : K → K → Bool) (hash : S → K → ℕ) (fixed : Fixed) (s : State (Node K V) (View K V S) (MapsWorld K V S)) (h : Holds same hash fixed s)
-    (id : ℕ) (v : View K V S) (at_id : view_of s id ≡ Some v) (own : v.under ≡ None) (free : v.work ≡ Nothing) (unlent : IsUnlent Leans id s) where
+    (id : ℕ) (v : View K V S) (at_id : view_of s id ≡ Some v) (own : v.under ≡ None) (free : v.work ≡ Nothing) (unlent : IsUnlent LeansUnder id s) where
   abbrev here : Scene K V
   here = scene same hash fixed s h id v at_id own
 
@@ -158,7 +157,8 @@ module _ {K V S : Type 0} (same : K → K → Bool) (hash : S → K → ℕ) (fi
     by_work : (j : ℕ) (x : View K V S) → view_of s j ≡ Some x → k ≡ caller_at j (acts_in x.under x.slot) → (work : SeatWork K V S) (map : Option (Map S)) → x.work ≡ work
         → DoesSo same hash here k x.under x.slot map work → ⊥
     by_work j x at e Nothing map is d = let none = d.calls m in cc (none, on)
-    by_work j x at e (Makes n hasher opening) map is d = let none = d.1.calls m in cc (none, on)
+    by_work j x at e (Makes mine n hasher opening) map is d = let none = d.1.calls m in cc (none, on)
+    by_work j x at e (Ends machine) map is d = let none = d.1.calls m in cc (none, on)
     by_work j x at e (Calls p) None is d = d
     by_work j x at e (Calls p) (Some map) is d =
         let f = (so same hash fixed s h id v at_id own).seats j x at in
@@ -232,23 +232,27 @@ module _ {K V S : Type 0} (same : K → K → Bool) (hash : S → K → ℕ) (fi
       rows = g.rows;
       calls = λ a k ne. refl;
       makers = λ k ne. refl;
-      enders = λ k. refl;
+      enders = λ k ne. refl;
       uses = λ t used apart. subst (λ (x : Use). IsUsedAlike (now.uses t) x) (sym (g.uses t apart)) (alike_same (now.uses t));
-      maps = maps_on same hash fixed s h id v at_id own free u noted n led.2 led.3;
-      held = λ t b apart inside held over.
-          (ap (λ (l : List Effect). holds t b l) g.log ∙ held, ap (λ (l : List Effect). is_over b l) g.log ∙ over, ap (λ (m : Mem (Node K V)). value_at m b) g.memory);
-      ended = λ o. ap (λ (l : List Effect). how_many (is_end_of_owner o) l) g.log;
+      ends = None;
+      maps = λ a r lasts is. maps_on same hash fixed s h id v at_id own free u noted n led.2 led.3 a r is;
+      held = λ t b a r apart inside lasts stands owner held.
+          (ap (λ (l : List Effect). holds t b l) g.log ∙ held, ap (λ (l : List Effect). owner_of b l) g.log, ap (λ (m : Mem (Node K V)). value_at m b) g.memory);
       made = λ k ne b x made is other. ap (λ (m : Mem (Node K V)). value_at m b) g.memory ∙ is;
       keeps = λ b hand there some. ap (λ (m : Mem (Node K V)). value_at m b) g.memory;
       passes = λ c ne was then_. (Begin me request ∷ [], (n, ne, g.happens, then_, refl));
     }
+
+    none_ends : leaves.ends ≡ None
+    unfolding leaves
+    none_ends = refl
 
     goes : (so_told : View K V S → Type 0) → so_told (w same hash fixed s h id v at_id own free u noted n led.2 led.3) → Goes (Holds same hash fixed) KeepsFor s s.memory id so_told
     goes so_told is =
         moved same hash fixed s h id v at_id (BeginsRow me request) may after
         (led.5 ∙ ap (λ (x : World (Node K V)). record here { world = x; maps = led.2 }) (sym same_world)) s.memory
         (w same hash fixed s h id v at_id own free u noted n led.2 led.3)
-        (go same hash fixed s h id v at_id own free u noted n led.2 led.3 leaves g.row (just_alike n (use_of u) g.used) (inr g.place)
+        (go same hash fixed s h id v at_id own free u noted n led.2 led.3 leaves none_ends g.row (just_alike n (use_of u) g.used) (inr g.place)
         (subst IsSlot (sym (held_place (use_of u) (use_of v.slot) g.place)) (its_place same hash fixed s h id v at_id own)) unlent (BeginsRow me request) numbered s.memory
         ((so same hash fixed s h id v at_id own).memory ∙ sym g.memory) g.plain g.short g.known g.bounded
         (λ j t a b x ne at uses its. let had = g.slot t b its in ne ((so same hash fixed s h id v at_id own).apart j id t a had.0 x v at at_id uses had.1)))
@@ -258,6 +262,6 @@ module _ {K V S : Type 0} (same : K → K → Bool) (hash : S → K → ℕ) (fi
         numbered = let f = (so same hash fixed s h id v at_id own).fresh in numbered_on s.world.doings (Does (BeginsRow me request) ∷ []) 0 f.0 f.0 f.2 refl
 
   pub begins_to : (noted : Noted) (so_in : SlotView (Node K V) → Type 0) (so_told : View K V S → Type 0) → BeginsTo deferred_word fixed now me v.slot so_in
-      → ((u : SlotView (Node K V)) → so_in u → so_told record { slot = u; under = None; map = v.map; work = Nothing; looks = []; held = []; began = noted; calls = v.calls })
+      → ((u : SlotView (Node K V)) → so_in u → so_told record { slot = u; under = None; map = v.map; by = v.by; own = v.own; work = Nothing; looks = []; held = []; began = noted; calls = v.calls })
       → Goes (Holds same hash fixed) KeepsFor s s.memory id so_told
   begins_to noted so_in so_told (u, n, request, g, is) tells = goes u noted n request g so_told (tells u is)

@@ -23,14 +23,14 @@ use Rattle.seize_views.specs.declared.view.Why.TheVariants.{Retiring, Ending}
 use Rattle.seize_views.proofs.Views.InWorld.{slot_held, slot_of as same_number}
 use Rattle.seize_views.proofs.Views.Moved.{not_vacant}
 use Rattle.threads_rule.specs.Views.Listed.{AreNumbered}
-use Rattle.threads_rule.specs.Views.Rule.{MapsWorld, IsSlot, IsIdle, IsUsedSo, HasRow, DoesSo, Fits, AreSo, KnowsRow, Holds, IsFresh, Leans, caller_at, acts_in, section_of, place_of, held_slot}
+use Rattle.threads_rule.specs.Views.Rule.{MapsWorld, IsSlot, IsIdle, IsUsedSo, HasRow, DoesSo, Fits, AreSo, KnowsRow, Holds, IsFresh, caller_at, acts_in, section_of, place_of, held_slot, LeansUnder}
 use Rattle.threads_rule.specs.declared.view.Map.{Map}
 use Rattle.threads_rule.specs.declared.view.View.{View}
 use Rattle.threads_rule.specs.declared.view.SeatWork.{SeatWork}
-use Rattle.threads_rule.specs.declared.view.SeatWork.TheVariants.{Nothing, Calls, Makes}
+use Rattle.threads_rule.specs.declared.view.SeatWork.TheVariants.{Nothing, Calls, Makes, Ends}
 use Rattle.threads_rule.proofs.Views.Knows.{row_of_it}
-use Rattle.threads_rule.proofs.Views.Leaves.{Leaves, own_slot, own_section, alike_vacant, map_on, own_idle}
-use Rattle.threads_rule.proofs.Views.Moved.{scene_of, all_stand, are_so, Moved}
+use Rattle.threads_rule.proofs.Views.Leaves.{Leaves, own_slot, own_section, alike_vacant, map_on, all_last, own_idle}
+use Rattle.threads_rule.proofs.Views.Moved.{scene_of, all_stand, are_so, Moved, knows_alike}
 use Rattle.seize_words.proofs.General.{same_some}
 
 -- the place is that of the slot that is held
@@ -111,7 +111,8 @@ module _ {K V S : Type 0} (same : K → K → Bool) (hash : S → K → ℕ) (fi
       by (Calls p) (Some map) d =
           let mine = sym (ap use_of (own_section x.slot d.0 (ap (λ (u : Option (ℕ × ℕ)). section_of u x.slot) (sym lone) ∙ d.1))) ∙ uses in
           subst (λ (u : Use). IsInside u) none (subst (λ (b : ℕ). IsInside (scene.world.uses b)) (same_number (d.0, Inside 0) (t, a) mine) d.2)
-      by (Makes m hasher opening) map d = let two = sym (ap use_of d.0) ∙ uses in cc two
+      by (Makes mine m hasher opening) map d = let two = sym (ap use_of d.0) ∙ uses in cc two
+      by (Ends machine) map d = let two = sym (ap use_of d.0) ∙ uses in cc two
 
   module _ (free : v.work ≡ Nothing) where
     pub its : HasRow scene i v.slot
@@ -122,7 +123,7 @@ module _ {K V S : Type 0} (same : K → K → Bool) (hash : S → K → ℕ) (fi
       next = record scene { world = n; maps = maps2 }
 
       abbrev pub w : View K V S
-      w = record { slot = u; under = None; map = v.map; work = Nothing; looks = []; held = []; began = began; calls = v.calls }
+      w = record { slot = u; under = None; map = v.map; by = v.by; own = v.own; work = Nothing; looks = []; held = []; began = began; calls = v.calls }
 
       pub maps_on : (m : ℕ) (r : Standing K) → scene.maps m ≡ Some r → (r2 : Standing K) × (maps2 m ≡ Some r2) × (r2.setting ≡ r.setting) × (r2.hash ≡ r.hash)
       maps_on m r is =
@@ -131,7 +132,7 @@ module _ {K V S : Type 0} (same : K → K → Bool) (hash : S → K → ℕ) (fi
       fresh_on : IsFresh next so.fresh.0
       fresh_on = (λ m above. subst (λ (o : Option (Standing K)). IsSameMap o (maps2 m)) (so.fresh.1.0 m above) (same_maps m), so.fresh.1.1)
 
-      module _ (leaves : Leaves same hash fixed.batch_size scene next i (use_of v.slot)) (row : n.row i ≡ row_of u) (used : IsUsedSo n (use_of u))
+      module _ (leaves : Leaves same hash fixed.batch_size scene next i (use_of v.slot)) (stand : leaves.ends ≡ None) (row : n.row i ≡ row_of u) (used : IsUsedSo n (use_of u))
           (stays : (row_of u ≡ Rests) ⊎ (slot_held (use_of u) ≡ slot_held (use_of v.slot))) (its_slot : IsSlot (place_of u)) where
         abbrev there : ℕ
         there = place_of u
@@ -164,7 +165,7 @@ module _ {K V S : Type 0} (same : K → K → Bool) (hash : S → K → ℕ) (fi
         bounds b (inl e) = subst (λ (a : ℕ). IsBounded deferred_word fixed n (caller_at id a) u) (sym e) b
         bounds b (inr (ne, rests)) = rest_bounded fixed n (caller_at id there) u rests
 
-        pub go : IsUnlent Leans id s → (act : Act K V S) → AreNumbered 0 (s.world.doings ++ Does act ∷ []) so.fresh.0 → (m : Mem (Node K V)) → m ≡ n.memory → IsPlain u → IsShort u → IsKnown deferred_word n u → IsBounded deferred_word fixed n i u
+        pub go : IsUnlent LeansUnder id s → (act : Act K V S) → AreNumbered 0 (s.world.doings ++ Does act ∷ []) so.fresh.0 → (m : Mem (Node K V)) → m ≡ n.memory → IsPlain u → IsShort u → IsKnown deferred_word n u → IsBounded deferred_word fixed n i u
             → ((j t : ℕ) (a b : Use) (x : View K V S) → j ≢ id → view_of s j ≡ Some x → use_of x.slot ≡ Some (t, a) → use_of u ≡ Some (t, b) → ⊥)
             → Moved same hash fixed s h id act m w next
         go unlent act numbered m memory plain short known bounded alone = record {
@@ -173,7 +174,8 @@ module _ {K V S : Type 0} (same : K → K → Bool) (hash : S → K → ℕ) (fi
             slot = its_slot;
             does = does (goes_on (cases_eq there place));
             aside = tt;
-            map = map_on same hash scene next id place its_place fixed.batch_size (use_of v.slot) leaves v.map fits.map;
+            map = map_on same hash scene next id place its_place fixed.batch_size (use_of v.slot) leaves v.map (all_last same hash scene next id place its_place fixed.batch_size (use_of v.slot) leaves stand v.map) fits.map;
+            own = map_on same hash scene next id place its_place fixed.batch_size (use_of v.slot) leaves v.own (all_last same hash scene next id place its_place fixed.batch_size (use_of v.slot) leaves stand v.own) fits.own;
             only = tt;
             held = tt;
             pair = tt;
@@ -186,6 +188,8 @@ module _ {K V S : Type 0} (same : K → K → Bool) (hash : S → K → ℕ) (fi
           theirs = λ j t a b x ne at uses mine. ne (so.apart j id t a b x v at at_id uses mine);
           alone = alone;
           under = λ x at. sym own ∙ ap (λ (y : View K V S). y.under) (same_some v x (sym at_id ∙ at));
+          knows = knows_alike same hash fixed s h id v w at_id refl refl refl;
+          gone = λ m e. absurd (cc (stand, e));
           leant = inr unlent;
           fresh = (so.fresh.0, fresh_on, numbered);
           row = record { plain = plain; short = short; known = known; bounded = bounds bounded (goes_on (cases_eq there place)) };

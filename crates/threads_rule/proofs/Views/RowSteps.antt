@@ -28,7 +28,7 @@ use Rattle.seize_views.specs.declared.view.SlotView.{SlotView}
 use Rattle.seize_views.proofs.Views.InWorld.{IsLikeness, IsUsedLike, HasRow as RowIn, Went, GoesTo}
 use Rattle.seize_views.proofs.Views.Steps.{works_on_own}
 use Rattle.threads_rule.specs.Views.Listed.{AreNumbered}
-use Rattle.threads_rule.specs.Views.Rule.{MapsWorld, IsSlot, IsUsedSo, Holds, KeepsFor, Leans, held_slot}
+use Rattle.threads_rule.specs.Views.Rule.{MapsWorld, IsSlot, IsUsedSo, Holds, KeepsFor, held_slot, LeansUnder}
 use Rattle.threads_rule.specs.declared.view.View.{View}
 use Rattle.threads_rule.specs.declared.view.SeatWork.TheVariants.{Nothing}
 use Rattle.threads_rule.proofs.Views.Alone.{alone_on_slot}
@@ -37,7 +37,7 @@ use Rattle.threads_rule.proofs.Views.Leaves.{Leaves}
 use Rattle.threads_rule.proofs.Views.Listed.{numbered_on}
 use Rattle.threads_rule.proofs.Views.Moved.{moved}
 use Rattle.threads_rule.proofs.Views.Numbers.{first_slot}
-use Rattle.threads_rule.proofs.Views.Ran.{Ran, ran_stays, ran_ends_none, ran_keeps, ran_passes}
+use Rattle.threads_rule.proofs.Views.Ran.{Ran, ran_stays, ran_keeps, ran_passes}
 use Rattle.threads_rule.proofs.Views.RowFits.{scene, all, so, its_place, i, knows, is_used, its, next, w, maps_on, go}
 use Rattle.many_acts.proofs.Given.CallersTogether.Slots.{alike_same}
 use Rattle.seize_words.proofs.General.{same_some}
@@ -117,11 +117,11 @@ module _ {K V S : Type 0} (same : K → K → Bool) (hash : S → K → ℕ) (fi
       rows = λ k ne. (did deferred_word fixed.batch_size now reached me n step).rows k ne;
       calls = λ a k ne. refl;
       makers = λ k ne. refl;
-      enders = λ k. refl;
+      enders = λ k ne. refl;
       uses = λ t used apart. subst (λ (x : Use). IsUsedAlike (now.uses t) x) (sym (uses_kept deferred_word fixed.batch_size now reached me n step t used (not_mine t apart))) (alike_same (now.uses t));
-      maps = maps_on same hash fixed s h id v at_id own free u began n led.3 led.4;
-      held = λ t b apart inside held over. (ran_stays deferred_word fixed.batch_size me now n reached ran t inside).1 b held over;
-      ended = ran_ends_none deferred_word fixed.batch_size me now n reached ran;
+      ends = None;
+      maps = λ a r lasts is. maps_on same hash fixed s h id v at_id own free u began n led.3 led.4 a r is;
+      held = λ t b a r apart inside lasts stands owner held. (ran_stays deferred_word fixed.batch_size me now n reached ran t inside).1 b held;
       made = λ k ne. row_keeps fixed.batch_size now n me reached step k;
       keeps = ran_keeps deferred_word fixed.batch_size me now n reached ran;
       passes = λ c ne. ran_passes deferred_word fixed.batch_size me c ne now n reached ran;
@@ -130,6 +130,10 @@ module _ {K V S : Type 0} (same : K → K → Bool) (hash : S → K → ℕ) (fi
         not_mine : (t : ℕ) → ((a : Use) → use_of v.slot ≡ Some (t, a) → ⊥) → works_on (now.row me) ≡ t + 1 → ⊥
         not_mine t apart on =
             let k = works_on_own v.slot (knows same hash fixed s h id v at_id own).short t (sym (ap works_on (its same hash fixed s h id v at_id own free).row) ∙ on) in apart k.0 k.1
+
+    none_ends : leaves.ends ≡ None
+    unfolding leaves
+    none_ends = refl
 
     -- nobody else has its slot
     alone : (j t : ℕ) (a b : Use) (x : View K V S) → j ≢ id → view_of s j ≡ Some x → use_of x.slot ≡ Some (t, a) → use_of u ≡ Some (t, b) → ⊥
@@ -147,12 +151,12 @@ module _ {K V S : Type 0} (same : K → K → Bool) (hash : S → K → ℕ) (fi
           | inr free ↦ free.1
         ]
 
-    goes : IsUnlent Leans id s → (so_told : View K V S → Type 0) → so_told (w same hash fixed s h id v at_id own free u began n led.3 led.4) → Goes (Holds same hash fixed) KeepsFor s m id so_told
+    goes : IsUnlent LeansUnder id s → (so_told : View K V S → Type 0) → so_told (w same hash fixed s h id v at_id own free u began n led.3 led.4) → Goes (Holds same hash fixed) KeepsFor s m id so_told
     goes unlent so_told is =
         moved same hash fixed s h id v at_id (StepsRow me granted.0) may after
         (led.6 ∙ ap (λ (x : World (Node K V)). record (scene same hash fixed s h id v at_id own) { world = x; maps = led.3 }) (sym same_world)) m
         (w same hash fixed s h id v at_id own free u began n led.3 led.4)
-        (go same hash fixed s h id v at_id own free u began n led.3 led.4 leaves g.row (used_like n (use_of u) g.used) g.place (its_slot (use_of u) refl) unlent (StepsRow me granted.0) numbered m g.memory
+        (go same hash fixed s h id v at_id own free u began n led.3 led.4 leaves none_ends g.row (used_like n (use_of u) g.used) g.place (its_slot (use_of u) refl) unlent (StepsRow me granted.0) numbered m g.memory
         g.plain g.short g.known g.bounded alone)
         (record { own = ((λ a k. 0), tt); others = λ j ne theirs. refl; its = λ are. are; newest = λ other on. absurd (cc on); aside = λ j ne theirs. refl; seen = λ before b x none. absurd (cc none) }) so_told is
       where
@@ -160,6 +164,6 @@ module _ {K V S : Type 0} (same : K → K → Bool) (hash : S → K → ℕ) (fi
         numbered = let f = (so same hash fixed s h id v at_id own).fresh in numbered_on s.world.doings (Does (StepsRow me granted.0) ∷ []) 0 f.0 f.0 f.2 refl
 
   -- what leads on in the world leads on
-  pub steps_to : IsUnlent Leans id s → (m : Mem (Node K V)) (began : Began) (so_in : SlotView (Node K V) → Type 0) (so_told : View K V S → Type 0) → GoesTo deferred_word fixed IsUsedAlike now me v.slot m so_in
-      → ((u : SlotView (Node K V)) → so_in u → so_told record { slot = u; under = None; map = v.map; work = Nothing; looks = []; held = []; began = began; calls = v.calls }) → Goes (Holds same hash fixed) KeepsFor s m id so_told
+  pub steps_to : IsUnlent LeansUnder id s → (m : Mem (Node K V)) (began : Began) (so_in : SlotView (Node K V) → Type 0) (so_told : View K V S → Type 0) → GoesTo deferred_word fixed IsUsedAlike now me v.slot m so_in
+      → ((u : SlotView (Node K V)) → so_in u → so_told record { slot = u; under = None; map = v.map; by = v.by; own = v.own; work = Nothing; looks = []; held = []; began = began; calls = v.calls }) → Goes (Holds same hash fixed) KeepsFor s m id so_told
   steps_to unlent m began so_in so_told (u, n, g, is) tells = goes m u began n g unlent so_told (tells u is)

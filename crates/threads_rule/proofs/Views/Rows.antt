@@ -33,7 +33,7 @@ use Rattle.seize_views.proofs.Views.Turning.{Turning, turning}
 use Rattle.threads_rule.specs.Views.Begun.{with_slot}
 use Rattle.threads_rule.specs.Views.Promises.{RowsContinue, RowsTurn, SettlingsBegin, LookedAreShown}
 use Rattle.threads_rule.specs.Views.Looks.{shown_in}
-use Rattle.threads_rule.specs.Views.Rule.{MapsWorld, Fits, Holds, KeepsFor, LeansOn, Leans}
+use Rattle.threads_rule.specs.Views.Rule.{MapsWorld, Fits, Holds, KeepsFor, LeansOn, LeansUnder}
 use Rattle.threads_rule.specs.Views.Told.{told, observed_by}
 use Rattle.threads_rule.specs.declared.view.View.{View}
 use Rattle.threads_rule.specs.declared.view.SeatWork.{SeatWork}
@@ -70,18 +70,20 @@ module _ {K V S : Type 0} (same : K → K → Bool) (hash : S → K → ℕ) (fi
     had k x at (inl e) =
         let one = same_some w x (sym (here k e) ∙ at) in
         let f = h.so.seats id v at_id in
-        let g : Fits same hash s.world.scene id w = record { slot = f.slot; does = f.does; aside = f.aside; map = f.map; only = f.only; held = tt; pair = f.pair; idle = f.idle } in
+        let g : Fits same hash s.world.scene id w = record { slot = f.slot; does = f.does; aside = f.aside; map = f.map; own = f.own; only = f.only; held = tt; pair = f.pair; idle = f.idle } in
         record {
           knew = v;
           at = ap (view_of s) e ∙ at_id;
           slot = ap (λ (y : View K V S). y.slot) (sym one);
           under = inl (ap (λ (y : View K V S). y.under) (sym one));
+          own = ap (λ (y : View K V S). y.own) (sym one);
+          known = inl (ap (λ (y : View K V S). y.map) (sym one), ap (λ (y : View K V S). y.by) (sym one));
           calls = ap (λ (y : View K V S). y.calls) (sym one);
           work = ap (λ (y : View K V S). y.work) (sym one);
           held = λ b y shown. (let none : shown_in w.held b ≡ Some y = ap (λ (z : View K V S). shown_in z.held b) one ∙ shown in absurd (cc none));
           fits = subst (λ (y : View K V S). Fits same hash s.world.scene k y) one (subst (λ (a : ℕ). Fits same hash s.world.scene a w) (sym e) g);
         }
-    had k x at (inr ne) = let was = sym (elsewhere s.views id k w ne) ∙ at in record { knew = x; at = was; slot = refl; under = inl refl; calls = refl; work = refl; held = λ b y shown. shown; fits = h.so.seats k x was }
+    had k x at (inr ne) = let was = sym (elsewhere s.views id k w ne) ∙ at in record { knew = x; at = was; slot = refl; under = inl refl; own = refl; known = inl (refl, refl); calls = refl; work = refl; held = λ b y shown. shown; fits = h.so.seats k x was }
 
     unborn : (k : ℕ) → slice_get views k ≡ None → (k ≡ id) ⊎ (k ≢ id) → view_of s k ≡ None
     unborn k at (inl e) = let f = here k e in absurd (cc (f, at))
@@ -96,7 +98,7 @@ module _ {K V S : Type 0} (same : K → K → Bool) (hash : S → K → ℕ) (fi
       is,
     )
 
-  module _ (own : v.under ≡ None) (free : v.work ≡ Nothing) (unlent : IsUnlent Leans id s) where
+  module _ (own : v.under ≡ None) (free : v.work ≡ Nothing) (unlent : IsUnlent LeansUnder id s) where
     abbrev me : ℕ
     me = i same hash fixed s h id v at_id own
 
@@ -104,11 +106,11 @@ module _ {K V S : Type 0} (same : K → K → Bool) (hash : S → K → ℕ) (fi
     now = scene same hash fixed s h id v at_id own
 
     -- what is left is the view with this known of its slot
-    with_it : (u x : SlotView (Node K V)) (began : Began) → x ≡ u → record { slot = x; under = None; map = v.map; work = Nothing; looks = []; held = []; began = began; calls = v.calls } ≡ with_slot v u began
+    with_it : (u x : SlotView (Node K V)) (began : Began) → x ≡ u → record { slot = x; under = None; map = v.map; by = v.by; own = v.own; work = Nothing; looks = []; held = []; began = began; calls = v.calls } ≡ with_slot v u began
     with_it u x began e =
-        ap (λ (y : SlotView (Node K V)). record { slot = y; under = None; map = v.map; work = Nothing; looks = []; held = []; began = began; calls = v.calls }) e
-        ∙ ap (λ (k : SeatWork K V S). record { slot = u; under = None; map = v.map; work = k; looks = []; held = []; began = began; calls = v.calls }) (sym free)
-        ∙ ap (λ (o : Option (ℕ × ℕ)). record { slot = u; under = o; map = v.map; work = v.work; looks = []; held = []; began = began; calls = v.calls }) (sym own)
+        ap (λ (y : SlotView (Node K V)). record { slot = y; under = None; map = v.map; by = v.by; own = v.own; work = Nothing; looks = []; held = []; began = began; calls = v.calls }) e
+        ∙ ap (λ (k : SeatWork K V S). record { slot = u; under = None; map = v.map; by = v.by; own = v.own; work = k; looks = []; held = []; began = began; calls = v.calls }) (sym free)
+        ∙ ap (λ (o : Option (ℕ × ℕ)). record { slot = u; under = o; map = v.map; by = v.by; own = v.own; work = v.work; looks = []; held = []; began = began; calls = v.calls }) (sym own)
 
     turns : (u : SlotView (Node K V)) (began : Began) → Turning deferred_word fixed IsUsedAlike alike me v.slot u
         → Goes (Holds same hash fixed) KeepsFor s s.memory id (λ x. x ≡ with_slot v u began)
@@ -148,7 +150,7 @@ module _ {K V S : Type 0} (same : K → K → Bool) (hash : S → K → ℕ) (fi
 
 -- a row that has an operation to make is not one of a seat on which somebody leans
 unlent_within : {K V S : Type 0} (same : K → K → Bool) (hash : S → K → ℕ) (fixed : Fixed) (s : State (Node K V) (View K V S) (MapsWorld K V S)) (h : Holds same hash fixed s)
-    (id : ℕ) (v : View K V S) → view_of s id ≡ Some v → (op : Op (Node K V)) → op_of deferred_word v.slot ≡ Some op → IsUnlent Leans id s
+    (id : ℕ) (v : View K V S) → view_of s id ≡ Some v → (op : Op (Node K V)) → op_of deferred_word v.slot ≡ Some op → IsUnlent LeansUnder id s
 unlent_within {K} {V} {S} same hash fixed s h id v at_id op makes j x at leans = by x.under refl leans
   where
     by : (under : Option (ℕ × ℕ)) → x.under ≡ under → LeansOn under id → ⊥
@@ -170,17 +172,17 @@ module _ {K S : Type 0} (V : Type 0) (same : K → K → Bool) (hash : S → K �
             steps_to same hash fixed s h id v at_id own free (unlent_within same hash fixed s h id v at_id op makes) m v.began (row_told deferred_word v.slot op out) (told same hash v op out)
             (k.1 out m (subst (λ (x : Mem (Node K V)). Took x op out m) is took))
             (λ u tells.
-            subst (λ (x : SeatWork K V S). observed_by same hash v v.map x op out record { slot = u; under = None; map = v.map; work = Nothing; looks = []; held = []; began = v.began; calls = v.calls }) (sym free)
-            (u, tells, ap (λ (o : Option (ℕ × ℕ)). record { slot = u; under = o; map = v.map; work = Nothing; looks = []; held = []; began = v.began; calls = v.calls }) (sym own))),
+            subst (λ (x : SeatWork K V S). observed_by same hash v v.map x op out record { slot = u; under = None; map = v.map; by = v.by; own = v.own; work = Nothing; looks = []; held = []; began = v.began; calls = v.calls }) (sym free)
+            (u, tells, ap (λ (o : Option (ℕ × ℕ)). record { slot = u; under = o; map = v.map; by = v.by; own = v.own; work = Nothing; looks = []; held = []; began = v.began; calls = v.calls }) (sym own))),
       )
 
   pub rows_turn : RowsTurn V same hash
   rows_turn fixed id v u began own free is s h at_id unlent =
-      turns same hash fixed s h id v at_id own free unlent u began (turning deferred_word fixed IsUsedAlike alike (i same hash fixed s h id v at_id own) v.slot u is)
+      turns same hash fixed s h id v at_id own free (λ j x at l. unlent j x at (inl l)) u began (turning deferred_word fixed IsUsedAlike alike (i same hash fixed s h id v at_id own) v.slot u is)
 
   pub settlings_begin : SettlingsBegin V same hash
   settlings_begin fixed id v way c began own free is s h at_id unlent =
-      settles same hash fixed s h id v at_id own free unlent v.slot refl way c began is (knows same hash fixed s h id v at_id own).plain
+      settles same hash fixed s h id v at_id own free (λ j x at l. unlent j x at (inl l)) v.slot refl way c began is (knows same hash fixed s h id v at_id own).plain
 
   pub looked_are_shown : LookedAreShown V same hash
   looked_are_shown fixed id v c why b left x is = (λ t h at. subst IsSome (sym (here t h at)) refl, λ y of. same_some y x (sym of.3 ∙ here of.0 of.1 of.2))

@@ -3,7 +3,7 @@ use Rattle.std.specs.Prelude.{Option, Some, None}
 use Rattle.std.proofs.Common.{◌≡◌, ℕ, ◌<◌, ◌^◌, Bool, true, inl, inr, refl, sym, subst, ap, ◌∙◌}
 use Rattle.seize_words.specs.OneMemory.Mem.{Mem, value_at}
 use Rattle.seize_words.specs.OneMemory.Word.{block_in}
-use Rattle.seize.specs.Law.{holds}
+use Rattle.seize.specs.Law.{holds, owner_of}
 use Rattle.map_tables.specs.declared.node.Node.{Node}
 use Rattle.map_tables.specs.declared.node.Node.TheVariants.{Pair}
 use Rattle.papaya_raw.specs.Given.ReservesDeclared.sweep.Sweeping.{Sweeping}
@@ -27,7 +27,7 @@ use Rattle.many_acts.specs.Given.FinishesEndings.{EndingsTogether}
 use Rattle.many_acts.specs.Given.FinishesMachines.{machine_of, DidOfKind, MachineStepsWithEndings}
 use Rattle.many_acts.specs.Given.FinishesMaps.{Standing}
 use Rattle.many_acts.specs.Given.ScenesScene.{Scene, slot_of}
-use Rattle.threads_rule.specs.CallKinds.Shows.{ReadsPlaces, ReadsWord, ProgressNamesPair}
+use Rattle.threads_kinds.specs.CallKinds.Shows.{ReadsPlaces, ReadsWord, ProgressNamesPair}
 
 -- what reads the word of a place copies nothing
 reads_alone : (s : Sweeping) → ReadsWord s → CopiesPairs s → ⊥
@@ -104,9 +104,13 @@ module _ {K V : Type 0} (same : K → K → Bool) (batch_size roots : ℕ) (s : 
   abbrev Did : UnderWay K V K → Type 0
   Did x = DidOfKind V same same batch_size roots slot_of s.world s.maps s.calls s.makers s.enders m it i m2 did.w2 did.maps2 did.next x machine told
 
+  -- the section holds a block of the map
+  abbrev pub IsOurs : ℕ → Type 0
+  IsOurs b = (holds (slot_of i) b s.world.log ≡ true) × (owner_of b s.world.log ≡ it.setting.counter)
+
   -- it is there with its value, and held
   abbrev pub IsThere : ℕ → Type 0
-  IsThere word = (key : K) × (value : V) × (value_at m2 (block_in word) ≡ Some (Pair key value)) × (holds (slot_of i) (block_in word) s.world.log ≡ true)
+  IsThere word = (key : K) × (value : V) × (value_at m2 (block_in word) ≡ Some (Pair key value)) × IsOurs (block_in word)
 
   fits : (k : K) → it.hash k < 2 ^ 64
   fits = (all.makings.standing.fit m it here).0.fits
@@ -115,14 +119,16 @@ module _ {K V : Type 0} (same : K → K → Bool) (batch_size roots : ℕ) (s : 
   seen = seen_by it.blocks (it.sights (slot_of i))
 
   -- the section of its slot holds what may be looked at
-  held : (o : CallOverAll) → s.calls m i ≡ Some (OverAll o) → (n : ℕ) → n < it.chart.stored → seen.pair_known n ≡ true → holds (slot_of i) (seen.pair n) s.world.log ≡ true
-  held o at_i = let together = all.makings.standing.each m it here in (together.ground.sight (slot_of i) (together.inside i (OverAll o) at_i)).1.pairs
+  held : (o : CallOverAll) → s.calls m i ≡ Some (OverAll o) → (n : ℕ) → n < it.chart.stored → seen.pair_known n ≡ true → IsOurs (seen.pair n)
+  held o at_i n was known =
+      let together = all.makings.standing.each m it here in
+      let sight = together.ground.sight (slot_of i) (together.inside i (OverAll o) at_i) in (sight.1.pairs n was known, together.ground.owned.pairs n was (sight.0.pairs n was known))
 
   -- a pair that a place has is there
   module _ (w n : ℕ) (phase : Phase) (borrowed : Bool) (c2 : Chart K) (blocks2 : Blocks) (w2 : Mem (Node K V)) (less : n < c2.stored) (known : blocks2.pair_known n ≡ true)
       (is : w ≡ place_word it.hash c2 blocks2 (Holds n phase borrowed)) (stored : c2.stored ≡ it.chart.stored) (back : n < it.chart.stored → seen.pair_known n ≡ true)
       (same_pair : n < it.chart.stored → seen.pair_known n ≡ true → blocks2.pair n ≡ seen.pair n)
-      (holds_it : n < it.chart.stored → seen.pair_known n ≡ true → holds (slot_of i) (seen.pair n) s.world.log ≡ true) (key : K) (value : V)
+      (holds_it : n < it.chart.stored → seen.pair_known n ≡ true → IsOurs (seen.pair n)) (key : K) (value : V)
       (there : value_at w2 (blocks2.pair n) ≡ Some (Pair key value)) (memory : w2 ≡ m2) where
     was : n < it.chart.stored
     was = subst (λ (x : ℕ). n < x) stored less
@@ -135,7 +141,7 @@ module _ {K V : Type 0} (same : K → K → Bool) (batch_size roots : ℕ) (s : 
       key,
       value,
       ap (λ (x : Mem (Node K V)). value_at x (block_in w)) (sym memory) ∙ ap (λ (b : ℕ). value_at w2 b) block ∙ there,
-      ap (λ (b : ℕ). holds (slot_of i) b s.world.log) (block ∙ same_pair was (back was)) ∙ holds_it was (back was),
+      subst IsOurs (sym (block ∙ same_pair was (back was))) (holds_it was (back was)),
     )
 
   as_told : (word : ℕ) (other : Progress (Node K V)) → ProgressNamesPair told word → told ≡ other → ProgressNamesPair other word

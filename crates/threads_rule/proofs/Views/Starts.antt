@@ -13,8 +13,9 @@ use Rattle.seize_views.proofs.Views.Lists.{with_last, with_more, none_before}
 use Rattle.threads_rule.specs.Views.Promises.{RulesStart, SeatsCome}
 use Rattle.threads_rule.specs.Views.Listed.{calls_of, seen_of, IsNewest}
 use Rattle.threads_rule.specs.Views.Looks.{shown_in}
-use Rattle.threads_rule.specs.Views.Rule.{MapsWorld, Fits, KnowsRow, AreRuns, HasSeen, IsIdle, IsSlot, caller_at, IsLeant, acts_in, at_rest, runs_of}
+use Rattle.threads_rule.specs.Views.Rule.{MapsWorld, Fits, KnowsRow, AreRuns, HasSeen, IsIdle, IsSlot, caller_at, IsLeant, IsOwner, AreApart, acts_in, at_rest, runs_of}
 use Rattle.threads_rule.specs.declared.view.BegunCall.{BegunCall}
+use Rattle.threads_rule.specs.declared.view.Map.{Map}
 use Rattle.threads_rule.specs.declared.view.View.{View}
 use Rattle.threads_rule.specs.declared.view.SeatWork.TheVariants.{Calls}
 use Rattle.threads_rule.proofs.Views.Knows.{knows_rests}
@@ -37,8 +38,9 @@ module _ {K S : Type 0} (V : Type 0) (same : K → K → Bool) (hash : S → K �
             unborn = λ j t is e. record { calls = λ m. refl; makers = refl; enders = refl; row = refl };
             leant = λ j n t v e f. absurd (cc e);
             apart = λ j k t a b v u e f p q. absurd (cc e);
+            owned = λ j n v e f. absurd (cc e);
+            maps = λ j k v u mine e f g. absurd (cc e);
             fresh = (0, ((λ m above. refl), (λ i b is. absurd (cc is))), refl);
-            unended = λ o. refl;
           };
           rows = λ j v e. absurd (cc e);
           own = tt;
@@ -61,6 +63,7 @@ module _ {K S : Type 0} (V : Type 0) (same : K → K → Bool) (hash : S → K �
         aside = tt;
         does = record { row = first.row; slot = tt; calls = first.calls; makers = first.makers; enders = first.enders };
         map = tt;
+        own = tt;
         only = tt;
         held = tt;
         pair = tt;
@@ -82,13 +85,14 @@ module _ {K S : Type 0} (V : Type 0) (same : K → K → Bool) (hash : S → K �
         unborn = λ j t is e. h.so.unborn j t is (none_before s.views j at_rest e);
         leant = λ j n t x e f. leant j n t x f (with_last s.views j at_rest x e);
         apart = λ j k t a b x y e f p q. two j k t a b x y p q (with_last s.views j at_rest x e) (with_last s.views k at_rest y f);
+        owned = λ j n x e f. owned j n x f (with_last s.views j at_rest x e);
+        maps = λ j k x y mine e f g. maps j k x y mine g (with_last s.views j at_rest x e) (with_last s.views k at_rest y f);
         fresh = h.so.fresh;
-        unended = h.so.unended;
       };
       rows = λ j x e. row j x (with_last s.views j at_rest x e);
       own = h.own;
       calls = λ j.
-          subst (λ (runs : List (BegunCall K V)). AreRuns same hash s.world.scene (calls_of j s.world.doings h.reached.1 []) runs) (as_before j (slice_get (s.views ++ at_rest ∷ []) j) refl) (h.calls j);
+          subst (λ (runs : List (BegunCall K V)). AreRuns same hash (calls_of j s.world.doings h.reached.1 []) runs) (as_before j (slice_get (s.views ++ at_rest ∷ []) j) refl) (h.calls j);
       newest = λ j x machine e works. newest j x machine works (with_last s.views j at_rest x e);
       seen = λ j x e. seen j x (with_last s.views j at_rest x e);
     },
@@ -124,6 +128,22 @@ module _ {K S : Type 0} (V : Type 0) (same : K → K → Bool) (hash : S → K �
       leant : (j n t : ℕ) (x : View K V S) → x.under ≡ Some (n, t) → Came s j x → IsLeant (λ k. slice_get (s.views ++ at_rest ∷ []) k) n t
       leant j n t x f (inl e) = let base = h.so.leant j n t x e f in (base.0, with_more s.views n at_rest base.0 base.1, base.2)
       leant j n t x f (inr e) = let none = ap (λ (y : View K V S). y.under) e.1 in absurd (cc (none, f))
+
+      owner : (n : ℕ) (o : Option (Map S)) → IsOwner (view_of s) n o → IsOwner (λ k. slice_get (s.views ++ at_rest ∷ []) k) n o
+      owner n None base = absurd base
+      owner n (Some map) base = (base.0, with_more s.views n at_rest base.0 base.1, base.2)
+
+      owned : (j n : ℕ) (x : View K V S) → x.by ≡ Some n → Came s j x → IsOwner (λ k. slice_get (s.views ++ at_rest ∷ []) k) n x.map
+      owned j n x f (inl e) = owner n x.map (h.so.owned j n x e f)
+      owned j n x f (inr e) = let none = ap (λ (y : View K V S). y.by) e.1 in absurd (cc (none, f))
+
+      maps : (j k : ℕ) (x y : View K V S) (mine : Map S) → y.own ≡ Some mine → Came s j x → Came s k y → AreApart j k x y mine
+      maps j k x y mine g (inl e) (inl f) = h.so.maps j k x y mine e f g
+      maps j k x y mine g e (inr f) = let none = ap (λ (z : View K V S). z.own) f.1 in absurd (cc (none, g))
+      maps j k x y mine g (inr e) (inl f) = record {
+        known = λ a m number. (let none = ap (λ (z : View K V S). z.map) e.1 in absurd (cc (none, m)));
+        owned = λ a m number. (let none = ap (λ (z : View K V S). z.own) e.1 in absurd (cc (none, m)));
+      }
 
       no_slot : (x : View K V S) (t : ℕ) (a : Use) → at_rest ≡ x → use_of x.slot ≡ Some (t, a) → ⊥
       no_slot x t a e p = let f = ap (λ (y : View K V S). use_of y.slot) e in cc (f, p)

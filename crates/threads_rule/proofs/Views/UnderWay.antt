@@ -5,11 +5,12 @@ use Rattle.std.proofs.Common.{◌≡◌, ℕ, Bool, List, ◌⊎◌, inl, inr, s
 use Rattle.seize_words.specs.OneMemory.Mem.{Mem, Can, Took, value_at}
 use Rattle.seize_words.specs.OneMemory.Plan.{Plan, Steps, May}
 use Rattle.seize_words.specs.OneMemory.Word.{block_in}
-use Rattle.seize.specs.Law.{holds, is_somewhere}
+use Rattle.seize.specs.Law.{holds, owner_of, is_somewhere}
 use Rattle.seize.specs.World.{IsInside, InUse}
 use Rattle.map_tables.specs.Nodes.{deferred_word}
 use Rattle.map_tables.specs.declared.node.Node.{Node}
 use Rattle.map_tables.specs.declared.node.Node.TheVariants.{Pair}
+use Rattle.map_tables.specs.declared.setting.Setting.{Setting}
 use Rattle.map_machines.specs.declared.copier.Copying.{Copying}
 use Rattle.map_machines.specs.declared.copier.Copying.TheVariants as copies
 use Rattle.map_machines.specs.declared.dispose.Disposing.{Disposing}
@@ -58,20 +59,19 @@ use Rattle.threads_rule.specs.declared.view.SeatWork.{SeatWork}
 use Rattle.threads_rule.specs.declared.view.SeatWork.TheVariants.{Calls}
 use Rattle.threads_rule.proofs.Views.Knows.{knows_within}
 use Rattle.threads_rule.proofs.Views.Answered.{answered_there}
-use Rattle.threads_rule.proofs.Views.Leaves.{Leaves, section_place, section_on, call_here, own_idle, map_on}
+use Rattle.threads_rule.proofs.Views.Leaves.{Leaves, section_place, section_on, call_here, own_idle, map_on, all_last}
 use Rattle.threads_rule.proofs.Views.Held.{value_of}
 use Rattle.threads_rule.proofs.Views.Listed.{is_its, is_other, newest_on, newest_runs, numbered_on}
-use Rattle.threads_rule.proofs.Views.Moved.{scene_of, all_stand, are_so, Moved, Adds, same_slot, moved}
-use Rattle.threads_rule.proofs.Views.Next.{after, step_leaves, step_fresh, own_does}
+use Rattle.threads_rule.proofs.Views.Moved.{scene_of, all_stand, are_so, Moved, Adds, knows_alike, same_slot, moved}
+use Rattle.threads_rule.proofs.Views.Next.{after, step_leaves, none_ends, step_held, step_fresh, own_does}
 use Rattle.threads_rule.proofs.Views.Looked.{AllKnown, AllLooked, IsSo}
 use Rattle.threads_rule.proofs.Views.Naming.{IsThere, Known, none_more, of_these, one_more, with_told}
 use Rattle.threads_rule.proofs.Views.Shown.{is_read, pair_told, read_word, was_read}
-use Rattle.threads_rule.specs.CallKinds.Shows.{ReadsPlaces, AnswersWith, ProgressNamesPair, ToldAreVisible}
+use Rattle.threads_kinds.specs.CallKinds.Shows.{ReadsPlaces, AnswersWith, ProgressNamesPair, ToldAreVisible}
 use Rattle.threads_rule.specs.Views.Looks.{shown_in}
 use Rattle.threads_rule.proofs.Views.RowLooks.{row_sees}
 use Rattle.threads_rule.proofs.Views.Numbers.{slot_at}
 use Rattle.threads_rule.proofs.Views.Pairs.{newest_pair, step_hands, step_pair}
-use Rattle.threads_rule.proofs.Views.Quiet.{none_over}
 use Rattle.threads_rule.proofs.Views.Writers.{looks_aside_on, step_writes}
 use Rattle.seize_words.proofs.General.{same_some}
 
@@ -171,20 +171,24 @@ module _ {K V S : Type 0} (same : K → K → Bool) (hash : S → K → ℕ) (fi
   none_at (Counting sum) is row = row
   none_at (OverAll o) is row = sweeps_none o.sweep.stands is row
 
+  -- the section of its slot holds a block of the map
+  abbrev pub IsOurs : ℕ → Type 0
+  IsOurs b = (holds place b scene.world.log ≡ true) × (owner_of b scene.world.log ≡ it.0.setting.counter)
+
   -- what a step has seen the section of its slot holds, or its call has it, and goes on
   seen_lasts : (m2 : Mem (Node K V)) (next : Machine K V K) (told : Progress (Node K V)) (b : ℕ)
-      → HasSeen b scene.world.memory step_plan m2 (next, told) → (holds place b scene.world.log ≡ true) ⊎ ((IsOwnOf next b ⊎ IsNextOf next b) × Continues told)
+      → HasSeen b scene.world.memory step_plan m2 (next, told) → IsOurs b ⊎ ((IsOwnOf next b ⊎ IsNextOf next b) × Continues told)
   seen_lasts m2 next told b saw = by (is_at_row {K = K} {V = V} machine) refl
     where
-      by : (x : Bool) → is_at_row {K = K} {V = V} machine ≡ x → (holds place b scene.world.log ≡ true) ⊎ ((IsOwnOf next b ⊎ IsNextOf next b) × Continues told)
+      by : (x : Bool) → is_at_row {K = K} {V = V} machine ≡ x → IsOurs b ⊎ ((IsOwnOf next b ⊎ IsNextOf next b) × Continues told)
       by true row = let r = row_sees b scene.world.memory m2 same (hash map.hasher) machine row next told saw in inr (inr r.0, r.1)
       by false none =
           elim (steps_see V same same fixed.batch_size fixed.roots slot_of scene.world scene.maps scene.calls scene.makers scene.enders all map.number it.0 it.1
           i does.3.call does.3.here
           (none_at does.3.call (ap is_at_row does.3.is ∙ none)) m2 next told b
           (plan_was (λ (f : K → ℕ) (x : Machine K V K). HasSeen b scene.world.memory (machine_plan same same f x) m2 (next, told)) saw))
-          as (λ _. (holds place b scene.world.log ≡ true) ⊎ ((IsOwnOf next b ⊎ IsNextOf next b) × Continues told)) [
-            | inl held ↦ inl (subst (λ (a : ℕ). holds a b scene.world.log ≡ true) (slot_at id place fits.slot) held)
+          as (λ _. IsOurs b ⊎ ((IsOwnOf next b ⊎ IsNextOf next b) × Continues told)) [
+            | inl held ↦ inl (subst (λ (a : ℕ). holds a b scene.world.log ≡ true) (slot_at id place fits.slot) held.0, held.1)
             | inr own ↦ inr (inl own.0, own.1)
           ]
 
@@ -232,6 +236,12 @@ module _ {K V S : Type 0} (same : K → K → Bool) (hash : S → K → ℕ) (fi
         step_leaves same hash fixed.batch_size fixed.roots scene all id place map.number fits.slot came.standing came.stands came.call came.here inside on_row came.memory came.machine came.progress
         came.did
 
+    stand : leaves.ends ≡ None
+    unfolding leaves
+    stand =
+        none_ends same hash fixed.batch_size fixed.roots scene all id place map.number fits.slot came.standing came.stands came.call came.here inside on_row came.memory came.machine came.progress
+        came.did
+
     knows_pair : KnowsPair same hash scene i (Some map) (Calls machine) v.calls
     knows_pair =
         subst (λ (x : SeatWork K V S). KnowsPair same hash scene i (Some map) x v.calls) works
@@ -248,15 +258,26 @@ module _ {K V S : Type 0} (same : K → K → Bool) (hash : S → K → ℕ) (fi
     r2 = came_reached fixed.batch_size n.world came.did.together.makings.standing.came
 
     abbrev IsHeldThen : ℕ → Type 0
-    IsHeldThen b = holds place b n.world.log ≡ true
+    IsHeldThen b = (holds place b n.world.log ≡ true) × (owner_of b n.world.log ≡ map.setting.counter)
 
-    held_on : (b : ℕ) → holds place b scene.world.log ≡ true → IsHeldThen b
-    held_on b held = (leaves.held place b (λ a e. cc e) inside held (none_over scene.world.log so.unended b)).0
+    its_counter : it.0.setting.counter ≡ map.setting.counter
+    its_counter = ap (λ (x : Setting). x.counter) it.2
 
-    used_held : (b o : ℕ) → n.world.hand b ≡ InUse o → IsHeldThen b
+    held_on : (b : ℕ) → IsOurs b → IsHeldThen b
+    held_on b ours = let g = leaves.held place b map.number it.0 (λ a e. cc e) inside (λ e. cc (stand, e)) it.1 ours.1 ours.0 in (g.0, g.1 ∙ ours.1 ∙ its_counter)
+
+    used_held : (b o : ℕ) → n.world.hand b ≡ InUse o → holds place b n.world.log ≡ true
     used_held b o used =
         reached_held place b n.world.log (ap is_somewhere (used_stands deferred_word fixed.batch_size n.world r2 b used))
         (inside_open deferred_word fixed.batch_size n.world r2 place (section_on same hash scene n id place fits.slot fixed.batch_size None leaves place (λ a e. cc e) inside))
+
+    -- whosever it is
+    still_held : (b : ℕ) → holds place b scene.world.log ≡ true → holds place b n.world.log ≡ true
+    still_held b held = (step_held same hash fixed.batch_size fixed.roots scene all id place map.number fits.slot came.standing came.stands came.call came.here inside on_row came.memory came.machine came.progress
+        came.did place inside b held).0
+
+    same_it : it.0 ≡ came.standing
+    same_it = same_some it.0 came.standing (sym it.1 ∙ came.stands)
 
     -- a pair that the step tells is there, and its section holds it then: one that a sweep has read,
     abbrev IsIt : ℕ → Type 0
@@ -274,7 +295,8 @@ module _ {K V S : Type 0} (same : K → K → Bool) (hash : S → K → ℕ) (fi
           t.0,
           t.1,
           so_after word t.0 t.1 t.2,
-          held_on (block_in word) (subst (λ (a : ℕ). holds a (block_in word) scene.world.log ≡ true) (slot_at id place fits.slot) t.3),
+          held_on (block_in word)
+              (subst (λ (a : ℕ). holds a (block_in word) scene.world.log ≡ true) (slot_at id place fits.slot) t.3.0, t.3.1 ∙ ap (λ (x : Standing K). x.setting.counter) (sym same_it)),
         )
 
     -- or one with which a call has answered
@@ -285,10 +307,14 @@ module _ {K V S : Type 0} (same : K → K → Bool) (hash : S → K → ℕ) (fi
           t.0,
           t.1,
           so_after word t.0 t.1 t.2,
-          elim t.3 as (λ _. IsHeldThen (block_in word)) [
-            | inl held ↦ held_on (block_in word) (subst (λ (a : ℕ). holds a (block_in word) scene.world.log ≡ true) (slot_at id place fits.slot) held)
-            | inr used ↦ used_held (block_in word) used.0 used.1
-          ],
+          (
+            elim t.3 as (λ _. holds place (block_in word) n.world.log ≡ true) [
+              | inl held ↦
+                  still_held (block_in word) (subst (λ (a : ℕ). holds a (block_in word) scene.world.log ≡ true) (slot_at id place fits.slot) held)
+              | inr used ↦ used_held (block_in word) used.0 used.1
+            ],
+            t.4 ∙ ap (λ (x : Standing K). x.setting.counter) (sym same_it) ∙ its_counter,
+          ),
         )
 
     -- what was looked at, with these pairs
@@ -329,26 +355,27 @@ module _ {K V S : Type 0} (same : K → K → Bool) (hash : S → K → ℕ) (fi
       of_on next _ b of on = of
 
       looked_held : (more : List (ℕ × Node K V)) → AllKnown IsHeldThen scene.world.memory step_plan m2 (came.machine, came.progress) more
-          → AllHeld same hash n v.under v.slot (call_after came.machine came.progress) more
+          → AllHeld same hash n v.under v.slot (Some map) (call_after came.machine came.progress) more
       looked_held [] each = tt
       looked_held (look ∷ more) each = ((there, by each.0), looked_held more each.2)
         where
           there : value_at n.world.memory look.0 ≡ Some look.1
           there = ap (λ (x : Mem (Node K V)). value_at x look.0) (came.did.memory ∙ sym memory_is) ∙ each.1
 
-          why : (holds place look.0 scene.world.log ≡ true) ⊎ ((IsOwnOf came.machine look.0 ⊎ IsNextOf came.machine look.0) × Continues came.progress)
-              → IsInSection same hash n v.under v.slot look.0 ⊎ IsOfCall same hash (call_after {S = S} came.machine came.progress) look.0
-          why (inl held) = let g = leaves.held place look.0 (λ a e. cc e) inside held (none_over scene.world.log so.unended look.0) in inl (place, section_is, g.0, g.1)
+          why : IsOurs look.0 ⊎ ((IsOwnOf came.machine look.0 ⊎ IsNextOf came.machine look.0) × Continues came.progress)
+              → IsInSection same hash n v.under v.slot (Some map) look.0 ⊎ IsOfCall same hash (call_after {S = S} came.machine came.progress) look.0
+          why (inl ours) = let g = held_on look.0 ours in inl (place, section_is, g.0, g.1)
           why (inr (of, on)) = inr (of_on came.machine came.progress look.0 of on)
 
           by : HasSeen look.0 scene.world.memory step_plan m2 (came.machine, came.progress) ⊎ IsHeldThen look.0
-              → IsInSection same hash n v.under v.slot look.0 ⊎ IsOfCall same hash (call_after {S = S} came.machine came.progress) look.0
+              → IsInSection same hash n v.under v.slot (Some map) look.0 ⊎ IsOfCall same hash (call_after {S = S} came.machine came.progress) look.0
           by (inl saw) = why (seen_lasts m2 came.machine came.progress look.0 saw)
-          by (inr then_held) = inl (place, section_is, then_held, none_over n.world.log (λ o. leaves.ended o ∙ so.unended o) look.0)
+          by (inr then_held) = inl (place, section_is, then_held.0, then_held.1)
 
-      held_then : AllHeld same hash n v.under v.slot (call_after came.machine came.progress) looks
+      held_then : AllHeld same hash n v.under v.slot v.map (call_after came.machine came.progress) looks
       held_then =
-          looked_held looks (subst (λ (e : Machine K V K × Progress (Node K V)). AllKnown IsHeldThen scene.world.memory step_plan m2 e looks) end_is seen)
+          subst (λ (x : Option (Map S)). AllHeld same hash n v.under v.slot x (call_after came.machine came.progress) looks) (sym knows)
+          (looked_held looks (subst (λ (e : Machine K V K × Progress (Node K V)). AllKnown IsHeldThen scene.world.memory step_plan m2 e looks) end_is seen))
 
       -- it looks on, if it leans on another seat
       only_then : (told : Progress (Node K V)) → (Continues told → Writes came.machine → Writes machine) → LooksAside v.under (Some map) (call_after came.machine told)
@@ -378,7 +405,8 @@ module _ {K V S : Type 0} (same : K → K → Bool) (hash : S → K → ℕ) (fi
             (own_does same hash fixed.batch_size fixed.roots scene all id place map.number fits.slot came.standing came.stands came.call came.here inside on_row came.memory came.machine came.progress
             came.did v.under v.slot fits.aside section_is map refl came.progress came.did.goes_on);
         aside = fits.aside;
-        map = map_on same hash scene n id place fits.slot fixed.batch_size None leaves v.map fits.map;
+        map = map_on same hash scene n id place fits.slot fixed.batch_size None leaves v.map (all_last same hash scene n id place fits.slot fixed.batch_size None leaves stand v.map) fits.map;
+        own = map_on same hash scene n id place fits.slot fixed.batch_size None leaves v.own (all_last same hash scene n id place fits.slot fixed.batch_size None leaves stand v.own) fits.own;
         only = subst (λ (x : Option (Map S)). LooksAside v.under x (call_after came.machine came.progress)) (sym knows)
             (only_then came.progress (step_writes same (hash map.hasher) scene.world.memory m2 came.machine came.progress machine its_steps));
         held = held_then;
@@ -400,6 +428,8 @@ module _ {K V S : Type 0} (same : K → K → Bool) (hash : S → K → ℕ) (fi
         theirs = λ j t a b x ne at uses e. cc e;
         alone = same_slot same hash fixed s h id v w at_id refl;
         under = λ x at. ap (λ (y : View K V S). y.under) (same_some v x (sym at_id ∙ at));
+        knows = knows_alike same hash fixed s h id v w at_id refl refl refl;
+        gone = λ m e. absurd (cc (stand, e));
         leant = inl (refl, λ x at. ap (λ (y : View K V S). y.slot) (same_some v x (sym at_id ∙ at)));
         fresh = (
           so.fresh.0,
@@ -426,16 +456,16 @@ module _ {K V S : Type 0} (same : K → K → Bool) (hash : S → K → ℕ) (fi
         others = λ j ne theirs.
             ap (λ (told : Answer K V). calls_then j (Does act) told theirs) came.tells ∙ ap (λ (q : Bool). if q then has_progressed i came.progress theirs else theirs) (is_other j id place fits.slot ne);
         its = λ are.
-            subst (λ (told : Answer K V). AreRuns same hash n (calls_then id (Does act) told calls) w.calls) (sym came.tells)
-            (subst (λ (q : Bool). AreRuns same hash n (if q then has_progressed i came.progress calls else calls) w.calls) (sym (is_its id place fits.slot))
-            (newest_runs same hash n i came.progress calls v.calls (h.newest id v machine at_id works) are));
+            subst (λ (told : Answer K V). AreRuns same hash (calls_then id (Does act) told calls) w.calls) (sym came.tells)
+            (subst (λ (q : Bool). AreRuns same hash (if q then has_progressed i came.progress calls else calls) w.calls) (sym (is_its id place fits.slot))
+            (newest_runs same hash i came.progress calls v.calls (h.newest id v machine at_id works) are));
         newest = λ other on. its_newest;
         aside = λ j ne theirs. ap (λ (q : Bool). if q then Some (i, n.world.memory) else theirs) (is_other j id place fits.slot ne);
         seen = λ before b x shown. (
           n.world.memory,
           ap (λ (q : Bool). if q then Some (i, n.world.memory) else before) (is_its id place fits.slot),
           its_newest,
-          value_of same hash n w.under w.slot w.work b x w.held own.held shown,
+          value_of same hash n w.under w.slot w.map w.work b x w.held own.held shown,
         );
       }
 

@@ -36,7 +36,7 @@ use Rattle.threads_rule.specs.Views.Rule.{Writes, LooksAside, DoesSo, KnowsMap, 
 use Rattle.threads_rule.specs.declared.view.Map.{Map}
 use Rattle.threads_rule.specs.declared.view.View.{View}
 use Rattle.threads_rule.specs.declared.view.SeatWork.{SeatWork}
-use Rattle.threads_rule.specs.declared.view.SeatWork.TheVariants.{Nothing, Calls, Makes}
+use Rattle.threads_rule.specs.declared.view.SeatWork.TheVariants.{Nothing, Calls, Makes, Ends}
 use Rattle.threads_rule.proofs.Views.Leaves.{own_section, section_place}
 use Rattle.threads_rule.proofs.Views.Numbers.{slot_at}
 use Rattle.threads_rule.proofs.Views.Whose.{Seated, whose}
@@ -137,7 +137,8 @@ module _ {K V S : Type 0} (same : K → K → Bool) (hash : S → K → ℕ) (s 
     by_work : (work : SeatWork K V S) (map : Option (Map S)) → KnowsMap same hash scene map → LooksAside k.knows.under map work
         → DoesSo same hash scene a k.knows.under k.knows.slot map work → HoldsSlot a
     by_work Nothing map known only does = absurd (let none = does.calls m in cc (none, has))
-    by_work (Makes n hasher opening) map known only does = absurd (let none = does.1.calls m in cc (none, has))
+    by_work (Makes mine n hasher opening) map known only does = absurd (let none = does.1.calls m in cc (none, has))
+    by_work (Ends machine) map known only does = absurd (let none = does.1.calls m in cc (none, has))
     by_work (Calls machine) None known only does = absurd does
     by_work (Calls machine) (Some map) (it, there, setting, hashes) only (t, section, inside, call, on) =
         let number : map.number ≡ m = once map.number m a (λ none. (let is = call.here in cc (none, is))) (λ none. cc (none, has)) in

@@ -31,10 +31,10 @@ use Rattle.threads_rule.specs.Views.Told.{HandsBack, MayCome, call_after}
 use Rattle.threads_rule.specs.declared.view.Map.{Map}
 use Rattle.threads_rule.specs.declared.view.View.{View}
 use Rattle.threads_rule.specs.declared.view.SeatWork.TheVariants.{Nothing, Calls}
-use Rattle.threads_rule.specs.CallKinds.Kinds.{Kind, Stage, AsksSo, Continues}
-use Rattle.threads_rule.specs.CallKinds.Leads.{Leads}
-use Rattle.threads_rule.specs.CallKinds.Shows.{AnsweredAreVisible, ToldAreVisible}
-use Rattle.threads_rule.specs.CallKinds.Sweeps.{IsFor}
+use Rattle.threads_kinds.specs.CallKinds.Kinds.{Kind, Stage, AsksSo, Continues}
+use Rattle.threads_kinds.specs.CallKinds.Leads.{Leads}
+use Rattle.threads_kinds.specs.CallKinds.Shows.{AnsweredAreVisible, ToldAreVisible}
+use Rattle.threads_kinds.specs.CallKinds.Sweeps.{IsFor}
 use Rattle.threads_rule.specs.Errands.Looking.{HasRun, HasProgressed, StaysThere}
 
 -- a call of this kind asks nothing where the key is there,

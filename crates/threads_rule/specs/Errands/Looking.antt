@@ -55,7 +55,7 @@ progress_of_lookup (told_as.Refused fault) = progress.Refused fault
 module _ {K V S : Type 0} where
   -- within its section, or that of the seat that it leans on, it begins to do this with the map that it knows
   abbrev pub Begins : (K → K → Bool) → (S → K → ℕ) → Wanted K V → View K V S → View K V S → Type 0
-  Begins same hash wanted v w = (map : Map S) × (t : ℕ) × (v.map ≡ Some map) × (section_of v.under v.slot ≡ Some t) × (w ≡ calling v (machine_for same hash map t wanted))
+  Begins same hash wanted v w = (map : Map S) × (t : ℕ) × (v.map ≡ Some map) × (section_of v.under v.slot ≡ Some t) × (w ≡ calling v map (machine_for same hash map t wanted))
 
   -- its call looks for this key in the map that it knows, and stands at this lookup, which has not ended
   pub record LooksFor (key : K) (lookup : Lookup) (v : View K V S) : Type 0 where
@@ -90,7 +90,7 @@ module _ {K V S : Type 0} where
   -- It has begun one call more, within its section: to do this with the map that it knows. That has told this last.
   abbrev pub HasRun : (K → K → Bool) → (S → K → ℕ) → Wanted K V → Progress (Node K V) → View K V S → View K V S → Type 0
   HasRun same hash wanted told v w =
-      (map : Map S) × (t : ℕ) × (v.map ≡ Some map) × (section_of v.under v.slot ≡ Some t) × (w.calls ≡ record { began = machine_for same hash map t wanted; told = told } ∷ v.calls)
+      (map : Map S) × (t : ℕ) × (v.map ≡ Some map) × (section_of v.under v.slot ≡ Some t) × (w.calls ≡ record { map = map.number; began = machine_for same hash map t wanted; told = told } ∷ v.calls)
 
   -- within its section, with nothing else under way, it may look for the key by this lookup, in the map that it knows
   pub record MayLook (hash : S → K → ℕ) (key : K) (lookup : Lookup) (v : View K V S) : Type 0 where

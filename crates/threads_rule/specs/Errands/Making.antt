@@ -1,5 +1,5 @@
 -- What a seat knows while it makes a map of no table, and once that is there.
-use Rattle.std.specs.Prelude.{◌≡◌, ℕ, ◌+◌, ◌-◌, ◌^◌, ◌<◌, Some, Result, IfOk, IfErr}
+use Rattle.std.specs.Prelude.{false, ◌≡◌, ℕ, ◌+◌, ◌-◌, ◌^◌, ◌<◌, Some, None, Result, IfOk, IfErr}
 use Rattle.std.specs.Int.{IsPowerOfTwo}
 use Rattle.seize_words.specs.declared.fault.Fault.{Fault}
 use Rattle.seize.specs.declared.advance.Advance.{Advance}
@@ -11,7 +11,7 @@ use Rattle.map_machines.specs.declared.new_map.Opening.{Opening}
 use Rattle.map_machines.specs.declared.new_map.Opening.TheVariants.{Takes, Shards, Frees}
 use Rattle.seize_views.specs.declared.view.Fixed.{Fixed}
 use Rattle.threads_rule.specs.Views.Begun.{making}
-use Rattle.threads_rule.specs.Views.Rule.{stand_of}
+use Rattle.threads_rule.specs.Views.Rule.{side_of}
 use Rattle.threads_rule.specs.declared.view.View.{View}
 use Rattle.threads_rule.specs.declared.view.SeatWork.TheVariants.{Nothing, Makes}
 
@@ -55,12 +55,12 @@ PlansJust {S} plans hasher c = plans hasher c × ((h : S) (d : NewMap) → plans
 module _ {K V S : Type 0} where
   -- it begins to make a map by one of these machines, with a hasher
   abbrev pub BeginsMaking : (S → NewMap → Type 0) → View K V S → View K V S → Type 0
-  BeginsMaking plans v w = (m : ℕ) × (hasher : S) × (c : NewMap) × plans hasher c × (w ≡ making v m hasher c)
+  BeginsMaking plans v w = (m : ℕ) × (hasher : S) × (c : NewMap) × plans hasher c × (w ≡ making v false m hasher c)
 
   -- it makes a map of no table by this machine, which has not ended, with this hasher
   pub record MakesMap (hasher : S) (opening : NewMap) (v : View K V S) : Type 0 where
     pub number : ℕ
-    pub works : v.work ≡ Makes number hasher opening
+    pub works : v.work ≡ Makes false number hasher opening
     pub early : IsEarly opening.stands
     pub none : opening.len ≡ 0
 
@@ -77,11 +77,12 @@ module _ {K V S : Type 0} where
   MadeSo hasher c (progress.Done setting) v = HasMap hasher setting v
   MadeSo hasher c (progress.Refused fault) v = v.work ≡ Nothing
 
-  -- What a making has come to: the map is there, with what was chosen, or nothing was made, and the seat knows what it has known. No call has begun.
+  -- What a making has come to: the map is there, with what was chosen, or nothing was made, and the seat knows what it has known. It leans on no owner, if it leant on none. No call has begun.
   pub record HasOutcome (hasher : S) (opening : NewMap) (answer : Result Setting Fault) (v w : View K V S) : Type 0 where
     pub made : IfOk answer (λ setting. HasMap hasher setting w × (chosen_of setting ≡ chosen_of opening.setting))
     pub refused : IfErr answer (λ fault. (w.work ≡ Nothing) × (w.map ≡ v.map))
-    pub slot : stand_of w ≡ stand_of v
+    pub slot : side_of w ≡ side_of v
+    pub good : v.by ≡ None → w.by ≡ None
     pub calls : w.calls ≡ v.calls
 
   -- the map that it knows is the same, but where it has made one

@@ -15,8 +15,8 @@ use Rattle.papaya_raw.specs.declared.machines.progress.Answer.TheVariants as sai
 use Rattle.papaya_raw.specs.declared.machines.progress.Progress.{Progress}
 use Rattle.papaya_raw.specs.declared.machines.progress.Progress.TheVariants as progress
 use Rattle.many_acts.specs.Acts.Acts.{GoOver}
-use Rattle.threads_rule.specs.CallKinds.Kinds.{PairIsVisible}
-use Rattle.threads_rule.specs.CallKinds.Sweeps.{IsFor}
+use Rattle.threads_kinds.specs.CallKinds.Kinds.{PairIsVisible}
+use Rattle.threads_kinds.specs.CallKinds.Sweeps.{IsFor}
 use Rattle.threads_rule.specs.Views.Looks.{shown_in}
 use Rattle.threads_rule.specs.declared.view.View.{View}
 use Rattle.threads_rule.specs.declared.view.SeatWork.TheVariants.{Nothing}

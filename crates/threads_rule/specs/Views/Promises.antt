@@ -1,5 +1,5 @@
 -- What is promised of the rule of maps.
-use Rattle.std.specs.Prelude.{◌≡◌, ℕ, Bool, Some, ◌+◌, ◌<◌, ◌≤◌, ◌^◌, max, None}
+use Rattle.std.specs.Prelude.{◌≡◌, ◌⊎◌, ℕ, Bool, Some, ◌+◌, ◌<◌, ◌≤◌, ◌^◌, max, None}
 use Rattle.seize_words.specs.OneMemory.Op.{Op}
 use Rattle.seize_words.specs.OneMemory.Plan.{Then, Turn}
 use Rattle.std.specs.Int.{IsPowerOfTwo}
@@ -8,8 +8,10 @@ use Rattle.map_tables.specs.declared.node.Node.{Node}
 use Rattle.map_tables.specs.declared.setting.Setting.{Setting}
 use Rattle.map_machines.specs.NewMap.{new_map_plan, opening}
 use Rattle.map_machines.specs.declared.new_map.NewMap.{NewMap}
+use Rattle.papaya_raw.specs.EndMap.{end_map_plan}
 use Rattle.papaya_raw.specs.Machine.{machine_plan}
 use Rattle.papaya_raw.specs.declared.machines.asking.MachineReply.{MachineReply}
+use Rattle.papaya_raw.specs.declared.machines.end_map.EndMap.{EndMap}
 use Rattle.papaya_raw.specs.declared.machines.machine.Machine.{Machine}
 use Rattle.papaya_raw.specs.declared.machines.progress.Progress.{Progress}
 use Rattle.many_acts.specs.Given.PointsSteps.{AreLawful}
@@ -28,13 +30,13 @@ use Rattle.seize_views.specs.declared.view.SlotView.{SlotView}
 use Rattle.seize_views.specs.declared.view.SlotView.TheVariants.{Rests, Inside, Settles}
 use Rattle.seize_views.specs.declared.view.Why.{Why}
 use Rattle.seize_views.specs.declared.view.Why.TheVariants.{Retiring}
-use Rattle.threads_rule.specs.Views.Begun.{machine_for, asked, calling, replied, shown_map, leaning, making, with_slot}
+use Rattle.threads_rule.specs.Views.Begun.{machine_for, asked, calling, replied, shown_map, lent_map, returned_map, leaning, making, ending_own, with_slot}
 use Rattle.threads_rule.specs.Views.Looks.{shown_in}
 use Rattle.threads_rule.specs.Views.Rule.{Holds, KeepsFor, Leans, LooksAside, section_of, at_rest}
 use Rattle.threads_rule.specs.Views.Told.{told, turned}
 use Rattle.threads_rule.specs.declared.view.Map.{Map}
 use Rattle.threads_rule.specs.declared.view.View.{View}
-use Rattle.threads_rule.specs.declared.view.SeatWork.TheVariants.{Nothing, Calls, Makes}
+use Rattle.threads_rule.specs.declared.view.SeatWork.TheVariants.{Nothing, Calls, Makes, Ends}
 
 module _ {K S : Type 0} (V : Type 0) (same : K → K → Bool) (hash : S → K → ℕ) where
   -- The promise: the rule may start, whatever is chosen, where each hasher is lawful.
@@ -70,7 +72,7 @@ module _ {K S : Type 0} (V : Type 0) (same : K → K → Bool) (hash : S → K �
   abbrev pub CallsBegin : Type 0
   CallsBegin =
       (fixed : Fixed) (id t : ℕ) (v : View K V S) (map : Map S) (wanted : Wanted K V) → section_of v.under v.slot ≡ Some t → v.map ≡ Some map → v.work ≡ Nothing
-      → LooksAside v.under (Some map) (Calls (machine_for same hash map t wanted)) → Turns (Holds same hash fixed) KeepsFor id v (λ w. w ≡ calling v (machine_for same hash map t wanted))
+      → LooksAside v.under (Some map) (Calls (machine_for same hash map t wanted)) → Turns (Holds same hash fixed) KeepsFor id v (λ w. w ≡ calling v map (machine_for same hash map t wanted))
 
   -- what it has under way may be told anything
   abbrev pub CallsAreReplied : Type 0
@@ -84,16 +86,24 @@ module _ {K S : Type 0} (V : Type 0) (same : K → K → Bool) (hash : S → K �
       (fixed : Fixed) (id : ℕ) (v : View K V S) (map : Map S) (machine : Machine K V K) → v.map ≡ Some map → v.work ≡ Calls machine
       → Turns (Holds same hash fixed) KeepsFor id v (λ w. w ≡ asked v machine)
 
-  -- and a map that one seat knows may be handed on to another one that has nothing under way
+  -- and a map that one seat knows, and that is nobody's own, may be handed on to another one that has nothing under way
   abbrev pub MapsAreHandedOn : Type 0
   MapsAreHandedOn =
-      (fixed : Fixed) (i j : ℕ) (v u : View K V S) (map : Map S) → v.map ≡ Some map → u.work ≡ Nothing
+      (fixed : Fixed) (i j : ℕ) (v u : View K V S) (map : Map S) → v.map ≡ Some map → v.by ≡ None → u.work ≡ Nothing
       → Meets (Holds same hash fixed) i v j u (λ p q. (p ≡ v) × (q ≡ shown_map u map))
 
-  -- A block that is known to be held for a seat that leans on another one, and has nothing under way, that one keeps;
+  -- A seat that has nothing under way may come to lean on one that owns a map, and knows that map then; and back.
+  abbrev pub LoansBegin : Type 0
+  LoansBegin =
+      (fixed : Fixed) (i j : ℕ) (v u : View K V S) (map : Map S) → v.work ≡ Nothing → u.own ≡ Some map → Learns (Holds same hash fixed) KeepsFor i v j u (λ w. w ≡ lent_map v j map)
+
+  abbrev pub LoansEnd : Type 0
+  LoansEnd = (fixed : Fixed) (id : ℕ) (v : View K V S) → v.work ≡ Nothing → Turns (Holds same hash fixed) KeepsFor id v (λ w. w ≡ returned_map v)
+
+  -- A block that is known to be held for a seat that leans on another one, and has nothing under way, that one keeps, as long as the map is known or owned that the one knows;
   abbrev pub HeldAreKept : Type 0
   HeldAreKept =
-      (fixed : Fixed) (i n t k b : ℕ) (v u o : View K V S) (x : Node K V) → v.under ≡ Some (n, t) → v.work ≡ Nothing → shown_in v.held b ≡ Some x
+      (fixed : Fixed) (i n t k b : ℕ) (v u o : View K V S) (x : Node K V) → v.under ≡ Some (n, t) → v.work ≡ Nothing → (o.map ≡ v.map) ⊎ (o.own ≡ v.map) → shown_in v.held b ≡ Some x
       → KeptByTwo (Holds same hash fixed) KeepsFor i v n u k o b
 
   -- and what seats keep is there.
@@ -110,18 +120,30 @@ module _ {K S : Type 0} (V : Type 0) (same : K → K → Bool) (hash : S → K �
   abbrev pub LeaningsEnd : Type 0
   LeaningsEnd = (fixed : Fixed) (id : ℕ) (v : View K V S) → v.slot ≡ Rests → v.work ≡ Nothing → Turns (Holds same hash fixed) KeepsFor id v (λ w. w ≡ leaning v None)
 
-  -- A seat that holds no slot, and has nothing under way, may begin to make a map, with lengths that tables may have,
+  -- A seat that holds no slot, and has nothing under way, may begin to make a map, for itself or for good, with lengths that tables may have,
   abbrev pub MakingsBegin : Type 0
   MakingsBegin =
-      (fixed : Fixed) (id : ℕ) (v : View K V S) (hasher : S) (given : Setting) (places : ℕ) → v.slot ≡ Rests → v.work ≡ Nothing
+      (fixed : Fixed) (id : ℕ) (v : View K V S) (own : Bool) (hasher : S) (given : Setting) (places : ℕ) → v.slot ≡ Rests → v.work ≡ Nothing
       → given.batch_size ≡ fixed.batch_size → given.mask + 1 < 2 ^ 64 → 0 < fixed.roots → IsPowerOfTwo given.initial → (max places 8 ≤ 2 ^ 48 → IsTableLen (max places 8))
-      → Turns (Holds same hash fixed) KeepsFor id v (λ w. (m : ℕ) × (w ≡ making v m hasher (opening given fixed.roots places)))
+      → Turns (Holds same hash fixed) KeepsFor id v (λ w. (m : ℕ) × (w ≡ making v own m hasher (opening given fixed.roots places)))
 
   -- and the next operation of a making may be made at any moment
   abbrev pub MakingsContinue : Type 0
   MakingsContinue =
-      (fixed : Fixed) (id m : ℕ) (v : View K V S) (hasher : S) (machine : NewMap) (op : Op (Node K V))
-      → v.work ≡ Makes m hasher machine → op_in (new_map_plan machine) ≡ Some op → Allows (Holds same hash fixed) KeepsFor id v op (told same hash v op)
+      (fixed : Fixed) (id m : ℕ) (v : View K V S) (own : Bool) (hasher : S) (machine : NewMap) (op : Op (Node K V))
+      → v.work ≡ Makes own m hasher machine → op_in (new_map_plan machine) ≡ Some op → Allows (Holds same hash fixed) KeepsFor id v op (told same hash v op)
+
+  -- The one that owns a map, and on which nobody leans, may begin to end it, where it holds no slot and has nothing under way: from then on it doesn't stand.
+  abbrev pub EndingsBegin : Type 0
+  EndingsBegin =
+      (fixed : Fixed) (id : ℕ) (v : View K V S) (map : Map S) → v.slot ≡ Rests → v.work ≡ Nothing → v.own ≡ Some map
+      → TurnsUnlent (Holds same hash fixed) KeepsFor Leans id v (λ w. w ≡ ending_own v map)
+
+  -- And the next operation of an end may be made at any moment.
+  abbrev pub EndingsContinue : Type 0
+  EndingsContinue =
+      (fixed : Fixed) (id : ℕ) (v : View K V S) (machine : EndMap) (op : Op (Node K V))
+      → v.work ≡ Ends machine → op_in (end_map_plan machine) ≡ Some op → Allows (Holds same hash fixed) KeepsFor id v op (told same hash v op)
 
   -- The next operation of a row that a seat has under way may be made at any moment,
   abbrev pub RowsContinue : Type 0

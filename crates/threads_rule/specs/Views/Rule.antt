@@ -3,18 +3,20 @@
 use Rattle.std.specs.Prelude.{◌≡◌, ◌≢◌, ℕ, ◌+◌, ◌*◌, ◌<◌, Bool, List, [], Option, Some, None, true, false, ◌∷◌, ◌≤◌, ◌⊎◌}
 use Rattle.std.specs.List.{AllByRecursion}
 use Rattle.seize_words.specs.OneMemory.Mem.{Mem, value_at}
-use Rattle.seize.specs.Law.{holds, is_over}
+use Rattle.seize.specs.Law.{holds, owner_of}
 use Rattle.seize.specs.World.{World, Use, Rests, IsInside}
 use Rattle.map_tables.specs.Chunks.{is_incremental}
 use Rattle.map_tables.specs.Nodes.{deferred_word}
 use Rattle.map_tables.specs.declared.node.Node.{Node}
 use Rattle.map_machines.specs.declared.new_map.NewMap.{NewMap}
+use Rattle.papaya_raw.specs.declared.machines.end_map.EndMap.{EndMap}
 use Rattle.papaya_raw.specs.declared.machines.machine.Machine.{Machine}
 use Rattle.papaya_raw.specs.declared.machines.machine.Machine.TheVariants as kinds
 use Rattle.many_acts.specs.Given.CallersClaims.{IsNoLookup}
 use Rattle.many_acts.specs.Given.CallersRows.{IsUsedAlike, IsRowOn}
 use Rattle.many_acts.specs.Given.CallersPairs.{Given, Begun, IsTold}
 use Rattle.many_acts.specs.Given.CallersTogether.{UnderWay, OnKey}
+use Rattle.many_acts.specs.Given.FinishesEndings.{Finishing}
 use Rattle.many_acts.specs.Given.FinishesMachines.{machine_of}
 use Rattle.many_acts.specs.Given.FinishesMakings.{Beginning}
 use Rattle.many_acts.specs.Given.FinishesMaps.{Standing}
@@ -24,11 +26,11 @@ use Rattle.many_acts.specs.Looks.Sees.{IsOwnOf}
 use Rattle.many_acts.specs.Acts.Acts.{Wanted}
 use Rattle.many_acts.specs.Acts.Doings.{Doing, reclaiming}
 use Rattle.many_acts.specs.Acts.Lists.{Course, Reached, LedTo, nothing_done}
-use Rattle.seize_acts.specs.Acts.Stays.{how_many, is_end_of_owner}
 use Rattle.seize_seats.specs.Seats.State.{State, view_of}
-use Rattle.seize_views.specs.Views.Rows.{row_of, use_of, IsPlain, IsShort, IsKnown, IsBounded, Keeps}
+use Rattle.seize_views.specs.Views.Rows.{row_of, use_of, IsPlain, IsShort, IsKnown, IsBounded}
 use Rattle.seize_views.specs.declared.view.Began.TheVariants.{NotYet}
 use Rattle.seize_views.specs.declared.view.Fixed.{Fixed}
+use Rattle.seize_views.specs.declared.view.Has.{Has}
 use Rattle.seize_views.specs.declared.view.Has.TheVariants.{Nothing as NoBlock}
 use Rattle.seize_views.specs.declared.view.SlotView.{SlotView}
 use Rattle.seize_views.specs.declared.view.SlotView.TheVariants as slot_view
@@ -41,7 +43,7 @@ use Rattle.threads_rule.specs.declared.view.Map.{Map}
 use Rattle.threads_rule.specs.declared.view.BegunCall.{BegunCall}
 use Rattle.threads_rule.specs.declared.view.View.{View}
 use Rattle.threads_rule.specs.declared.view.SeatWork.{SeatWork}
-use Rattle.threads_rule.specs.declared.view.SeatWork.TheVariants.{Nothing, Calls, Makes}
+use Rattle.threads_rule.specs.declared.view.SeatWork.TheVariants.{Nothing, Calls, Makes, Ends}
 
 -- A seat is another caller in each slot.
 abbrev pub caller_at : ℕ → ℕ → ℕ
@@ -70,8 +72,12 @@ section_of None (slot_view.Inside t NoBlock) = Some t
 section_of None v = None
 
 -- where a seat stands: what it knows of its slot, and on whom it leans
-abbrev pub stand_of : {K V S : Type 0} → View K V S → SlotView (Node K V) × Option (ℕ × ℕ)
-stand_of v = (v.slot, v.under)
+abbrev pub side_of : {K V S : Type 0} → View K V S → SlotView (Node K V) × Option (ℕ × ℕ)
+side_of v = (v.slot, v.under)
+
+-- and on which owner of a map
+abbrev pub stand_of : {K V S : Type 0} → View K V S → (SlotView (Node K V) × Option (ℕ × ℕ)) × Option ℕ
+stand_of v = (side_of v, v.by)
 
 -- who leans on a seat holds no slot
 abbrev pub IsAside : {T : Type 0} → Option (ℕ × ℕ) → SlotView T → Type 0
@@ -83,16 +89,35 @@ abbrev pub LeansOn : Option (ℕ × ℕ) → ℕ → Type 0
 LeansOn None n = ⊥
 LeansOn (Some leant) n = leant.0 ≡ n
 
+-- it leans on the owner of this number
+abbrev pub IsBy : Option ℕ → ℕ → Type 0
+IsBy None n = ⊥
+IsBy (Some owner) n = owner ≡ n
+
+-- the one whose section it acts in
+abbrev pub LeansUnder : {K V S : Type 0} → View K V S → ℕ → Type 0
+LeansUnder v n = LeansOn v.under n
+
 abbrev pub Leans : {K V S : Type 0} → View K V S → ℕ → Type 0
-Leans v n = LeansOn v.under n
+Leans v n = LeansUnder v n ⊎ IsBy v.by n
 
 -- the seat of this number is within a section of the slot
 abbrev pub IsLeant : {K V S : Type 0} → (ℕ → Option (View K V S)) → ℕ → ℕ → Type 0
 IsLeant {K} {V} {S} view n t = (u : View K V S) × (view n ≡ Some u) × (u.slot ≡ slot_view.Inside t NoBlock)
 
+-- the seat of this number has the map as its own that is known
+abbrev pub IsOwner : {K V S : Type 0} → (ℕ → Option (View K V S)) → ℕ → Option (Map S) → Type 0
+IsOwner view n None = ⊥
+IsOwner {K} {V} {S} view n (Some map) = (u : View K V S) × (view n ≡ Some u) × (u.own ≡ Some map)
+
+-- What one seat knows of maps beside what another one has as its own: the map that it knows is not that one, but where it leans on that seat; and none has two owners.
+pub record AreApart {K V S : Type 0} (j k : ℕ) (v u : View K V S) (mine : Map S) : Type 0 where
+  pub known : (map : Map S) → v.map ≡ Some map → map.number ≡ mine.number → v.by ≡ Some k
+  pub owned : (map : Map S) → v.own ≡ Some map → map.number ≡ mine.number → j ≡ k
+
 -- a seat that holds no slot and knows no map
 abbrev pub at_rest : {K V S : Type 0} → View K V S
-at_rest = record { slot = slot_view.Rests; under = None; map = None; work = Nothing; looks = []; held = []; began = NotYet; calls = [] }
+at_rest = record { slot = slot_view.Rests; under = None; map = None; by = None; own = None; work = Nothing; looks = []; held = []; began = NotYet; calls = [] }
 
 -- the calls that a seat has begun; one that has not come has begun none
 abbrev pub runs_of : {K V S : Type 0} → Option (View K V S) → List (BegunCall K V)
@@ -103,6 +128,11 @@ runs_of (Some v) = v.calls
 pub record MapsWorld (K V S : Type 0) : Type 0 where
   pub doings : List (Doing K V S)
   pub scene : Scene K V
+
+-- the block is of this map, as the log tells
+abbrev pub IsOfMap : {S T : Type 0} → Option (Map S) → ℕ → World T → Type 0
+IsOfMap None b w = ⊥
+IsOfMap (Some map) b w = owner_of b w.log ≡ map.setting.counter
 
 -- the slot is used so, if one is held, however many rows work on it
 abbrev pub IsUsedSo : {T : Type 0} → World T → Option (ℕ × Use) → Type 0
@@ -137,6 +167,13 @@ module _ {K V : Type 0} where
     pub map : making.map ≡ m
     pub hashes : making.hash ≡ hash
     pub is : making.machine ≡ opening
+    pub calls : (n : ℕ) → s.calls n i ≡ None
+
+  -- it has nothing under way but the end of a map, with this machine
+  pub record HasEnding (s : Scene K V) (i : ℕ) (machine : EndMap) : Type 0 where
+    pub ending : Finishing K V
+    pub here : s.enders i ≡ Some ending
+    pub is : ending.machine ≡ machine
     pub calls : (n : ℕ) → s.calls n i ≡ None
 
   -- nothing but this row, and its slot is used so
@@ -177,7 +214,8 @@ module _ {K V S : Type 0} where
   -- Who leans on another seat has no call under way that may write, on a map in blocking mode.
   abbrev pub LooksAside : Option (ℕ × ℕ) → Option (Map S) → SeatWork K V S → Type 0
   LooksAside under map Nothing = Unit {0}
-  LooksAside under map (Makes m hasher opening) = Unit {0}
+  LooksAside under map (Makes own m hasher opening) = Unit {0}
+  LooksAside under map (Ends machine) = Unit {0}
   LooksAside None map (Calls machine) = Unit {0}
   LooksAside (Some leant) None (Calls machine) = Unit {0}
   LooksAside (Some leant) (Some map) (Calls machine) = is_incremental map.setting.mode ≡ false → Writes machine → ⊥
@@ -193,7 +231,8 @@ module _ {K V S : Type 0} (same : K → K → Bool) (hash : S → K → ℕ) whe
   DoesSo s i under slot None (Calls machine) = ⊥
   DoesSo s i under slot (Some map) (Calls machine) =
       (t : ℕ) × (section_of under slot ≡ Some t) × IsInside (s.world.uses t) × HasCall s i map.number machine × IsRowOn t (s.world.row i)
-  DoesSo s i under slot map (Makes m hasher opening) = (slot ≡ slot_view.Rests) × HasMaking s i m (hash hasher) opening × (s.world.row i ≡ Rests)
+  DoesSo s i under slot map (Makes own m hasher opening) = (slot ≡ slot_view.Rests) × HasMaking s i m (hash hasher) opening × (s.world.row i ≡ Rests)
+  DoesSo s i under slot map (Ends machine) = (slot ≡ slot_view.Rests) × HasEnding s i machine × (s.world.row i ≡ Rests)
 
   -- the map that it knows stands, as it knows it
   abbrev pub KnowsMap : Scene K V → Option (Map S) → Type 0
@@ -203,13 +242,14 @@ module _ {K V S : Type 0} (same : K → K → Bool) (hash : S → K → ℕ) whe
   -- the call that is under way was begun with the pair with which the newest of these began
   abbrev pub KnowsPair : Scene K V → ℕ → Option (Map S) → SeatWork K V S → List (BegunCall K V) → Type 0
   KnowsPair s i map Nothing runs = Unit {0}
-  KnowsPair s i map (Makes m hasher opening) runs = Unit {0}
+  KnowsPair s i map (Makes own m hasher opening) runs = Unit {0}
+  KnowsPair s i map (Ends machine) runs = Unit {0}
   KnowsPair s i None (Calls machine) runs = Unit {0}
   KnowsPair s i (Some map) (Calls machine) runs = (u : UnderWay K V K) → s.calls map.number i ≡ Some u → pair_of u ≡ pair_in runs
 
-  -- the section within which it has calls under way holds the block, which is not over
-  abbrev pub IsInSection : Scene K V → Option (ℕ × ℕ) → SlotView (Node K V) → ℕ → Type 0
-  IsInSection s under slot b = (t : ℕ) × (section_of under slot ≡ Some t) × (holds t b s.world.log ≡ true) × (is_over b s.world.log ≡ false)
+  -- the section within which it has calls under way holds the block, which is of the map that it knows
+  abbrev pub IsInSection : Scene K V → Option (ℕ × ℕ) → SlotView (Node K V) → Option (Map S) → ℕ → Type 0
+  IsInSection s under slot map b = (t : ℕ) × (section_of under slot ≡ Some t) × (holds t b s.world.log ≡ true) × IsOfMap map b s.world
 
   -- the call that is under way has it: as its own pair, or to reclaim it next, by a row of the collector
   abbrev pub IsOfCall : SeatWork K V S → ℕ → Type 0
@@ -217,27 +257,27 @@ module _ {K V S : Type 0} (same : K → K → Bool) (hash : S → K → ℕ) whe
   IsOfCall work b = ⊥
 
   -- the block is there with this value, and why it lasts until the seat's next step
-  abbrev pub IsHeld : Scene K V → Option (ℕ × ℕ) → SlotView (Node K V) → SeatWork K V S → ℕ × Node K V → Type 0
-  IsHeld s under slot work look = (value_at s.world.memory look.0 ≡ Some look.1) × (IsInSection s under slot look.0 ⊎ IsOfCall work look.0)
+  abbrev pub IsHeld : Scene K V → Option (ℕ × ℕ) → SlotView (Node K V) → Option (Map S) → SeatWork K V S → ℕ × Node K V → Type 0
+  IsHeld s under slot map work look = (value_at s.world.memory look.0 ≡ Some look.1) × (IsInSection s under slot map look.0 ⊎ IsOfCall work look.0)
 
-  abbrev pub AllHeld : Scene K V → Option (ℕ × ℕ) → SlotView (Node K V) → SeatWork K V S → List (ℕ × Node K V) → Type 0
-  AllHeld s under slot work [] = Unit {0}
-  AllHeld s under slot work (look ∷ looks) = IsHeld s under slot work look × AllHeld s under slot work looks
+  abbrev pub AllHeld : Scene K V → Option (ℕ × ℕ) → SlotView (Node K V) → Option (Map S) → SeatWork K V S → List (ℕ × Node K V) → Type 0
+  AllHeld s under slot map work [] = Unit {0}
+  AllHeld s under slot map work (look ∷ looks) = IsHeld s under slot map work look × AllHeld s under slot map work looks
 
-  -- A call that a seat knows of is this one of the list: it began as that does on a map that stands, in the slot of its caller, and has told the same last.
-  pub record IsRun (s : Scene K V) (call : Called K V) (run : BegunCall K V) : Type 0 where
+  -- A call that a seat knows of is this one of the list: it began as that does on this map, in the slot of its caller, and has told the same last.
+  pub record IsRun (call : Called K V) (run : BegunCall K V) : Type 0 where
     pub map : Map S
-    pub stands : KnowsMap s (Some map)
     pub number : map.number ≡ call.map
+    pub its : run.map ≡ call.map
     pub plainly : plain call.wanted ≡ call.wanted
     pub began : run.began ≡ machine_for same hash map (slot_of call.caller) call.wanted
     pub told : run.told ≡ call.told
 
   -- each of them, and there are no others
-  abbrev pub AreRuns : Scene K V → List (Called K V) → List (BegunCall K V) → Type 0
-  AreRuns s [] [] = Unit {0}
-  AreRuns s (call ∷ calls) (run ∷ runs) = IsRun s call run × AreRuns s calls runs
-  AreRuns s calls runs = ⊥
+  abbrev pub AreRuns : List (Called K V) → List (BegunCall K V) → Type 0
+  AreRuns [] [] = Unit {0}
+  AreRuns (call ∷ calls) (run ∷ runs) = IsRun call run × AreRuns calls runs
+  AreRuns calls runs = ⊥
 
   -- what a seat knows is so; in other slots it has nothing under way
   pub record Fits (s : Scene K V) (j : ℕ) (v : View K V S) : Type 0 where
@@ -245,8 +285,9 @@ module _ {K V S : Type 0} (same : K → K → Bool) (hash : S → K → ℕ) whe
     pub does : DoesSo s (caller_at j (acts_in v.under v.slot)) v.under v.slot v.map v.work
     pub aside : IsAside v.under v.slot
     pub map : KnowsMap s v.map
+    pub own : KnowsMap s v.own
     pub only : LooksAside v.under v.map v.work
-    pub held : AllHeld s v.under v.slot v.work v.held
+    pub held : AllHeld s v.under v.slot v.map v.work v.held
     pub pair : KnowsPair s (caller_at j (acts_in v.under v.slot)) v.map v.work v.calls
     pub idle : (t : ℕ) → IsSlot t → t ≢ acts_in v.under v.slot → IsIdle s (caller_at j t)
 
@@ -257,8 +298,9 @@ module _ {K V S : Type 0} (same : K → K → Bool) (hash : S → K → ℕ) whe
     pub unborn : (j t : ℕ) → IsSlot t → view_of s j ≡ None → IsIdle scene (caller_at j t)
     pub leant : (j n t : ℕ) (v : View K V S) → view_of s j ≡ Some v → v.under ≡ Some (n, t) → IsLeant (view_of s) n t
     pub apart : (j k t : ℕ) (a b : Use) (v u : View K V S) → view_of s j ≡ Some v → view_of s k ≡ Some u → use_of v.slot ≡ Some (t, a) → use_of u.slot ≡ Some (t, b) → j ≡ k
+    pub owned : (j n : ℕ) (v : View K V S) → view_of s j ≡ Some v → v.by ≡ Some n → IsOwner (view_of s) n v.map
+    pub maps : (j k : ℕ) (v u : View K V S) (mine : Map S) → view_of s j ≡ Some v → view_of s k ≡ Some u → u.own ≡ Some mine → AreApart j k v u mine
     pub fresh : (k : ℕ) × IsFresh scene k × AreNumbered 0 s.world.doings k
-    pub unended : (o : ℕ) → how_many (is_end_of_owner o) scene.world.log ≡ 0
 
   pub record Holds (fixed : Fixed) (s : State (Node K V) (View K V S) (MapsWorld K V S)) : Type 0 where
     pub course : Course V same hash fixed.batch_size fixed.roots slot_of
@@ -269,12 +311,12 @@ module _ {K V S : Type 0} (same : K → K → Bool) (hash : S → K → ℕ) whe
     pub so : AreSo s s.world.scene
     pub rows : (j : ℕ) (v : View K V S) → view_of s j ≡ Some v → KnowsRow fixed s.world.scene j v.slot
     pub own : AllByRecursion (IsItsOwn hash) s.world.doings
-    pub calls : (j : ℕ) → AreRuns s.world.scene (calls_of j s.world.doings reached.1 []) (runs_of (view_of s j))
+    pub calls : (j : ℕ) → AreRuns (calls_of j s.world.doings reached.1 []) (runs_of (view_of s j))
     pub newest : (j : ℕ) (v : View K V S) (machine : Machine K V K) → view_of s j ≡ Some v → v.work ≡ Calls machine → IsNewest (caller_at j (acts_in v.under v.slot)) (calls_of j s.world.doings reached.1 [])
     pub seen : (j : ℕ) (v : View K V S) → view_of s j ≡ Some v
         → HasSeen (caller_at j (acts_in v.under v.slot)) (calls_of j s.world.doings reached.1 [])
         (seen_of V same hash fixed.batch_size fixed.roots slot_of course j s.world.doings (nothing_done V same hash fixed.batch_size fixed.roots slot_of course) reached led None) v.held
 
--- the section of the one's slot holds the block, which is not over
+-- the section of the one's slot holds the block, which is of the map that the other one knows
 abbrev pub KeepsFor : {K V S : Type 0} → View K V S → View K V S → MapsWorld K V S → ℕ → Type 0
-KeepsFor u o w b = Keeps u.slot o.slot w.scene.world b
+KeepsFor {K} {V} u o w b = (t : ℕ) × (has : Has (Node K V)) × (u.slot ≡ slot_view.Inside t has) × (holds t b w.scene.world.log ≡ true) × (IsOfMap o.map b w.scene.world ⊎ IsOfMap o.own b w.scene.world)

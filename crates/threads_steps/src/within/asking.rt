@@ -3,7 +3,7 @@ ghost use Rattle.std.specs.Prelude.{◌≡◌, ℕ, Some, Ok, Result, IfNone, If
 ghost use Rattle.std.specs.Fn.{FnOnceReturns};
 ghost use Rattle.threads_steps.specs.Asking.{HasAnswered, HasGone, IsOfCall, MakingSays, MayTest, NoneSaid, PausedSo, TestSays, WasReplied, makes_pair as kind_that_makes, removes_if as kind_that_tests, reply_of, progress_at};
 ghost use Rattle.threads_rule.specs.Errands.Calling.{HasEnded, IsAsking, IsGoing, IsNoQuestion, IsUnderWay, MayDoAs, wanted_of};
-ghost use Rattle.threads_rule.specs.CallKinds.Kinds.{Kind, Stage, IsFit, PairIsVisible, stage_after};
+ghost use Rattle.threads_kinds.specs.CallKinds.Kinds.{Kind, Stage, IsFit, PairIsVisible, stage_after};
 ghost use Rattle.threads_rule.specs.Errands.Looking.{IsOfThem, StaysThere};
 ghost use Rattle.threads_steps.specs.Made.{IsSameSeat};
 ghost use Rattle.threads_steps.specs.declared.within.asking.Halt.TheVariants.{Ended};

@@ -2,7 +2,7 @@
 ghost use Rattle.std.specs.Prelude.{◌≡◌};
 ghost use Rattle.threads_steps.specs.Made.{IsSameSeat};
 ghost use Rattle.threads_rule.specs.Errands.Making.{BeginsMaking, HasOutcome, GetsOn, IsThis, KnowsStill, MadeSo, MakesMap, MayBegin, PlansJust, StaysChosen};
-ghost use Rattle.threads_rule.specs.Views.Rule.{stand_of};
+ghost use Rattle.threads_rule.specs.Views.Rule.{side_of};
 ghost use Rattle.threads_rule.specs.declared.view.SeatWork.TheVariants.{Nothing as NoWork};
 ghost use Rattle.seize_views.specs.declared.view.SlotView.TheVariants.{Rests};
 
@@ -47,7 +47,8 @@ impl<'a, K: Eq + Drop, V: Drop, S: Hashes<K>> Within<'a, K, V, S> {
         ensures map { KnowsStill result self.old.seat.now.view self.new.seat.now.view }
         ensures chosen { StaysChosen opening.old opening.new result }
         ensures left { GetsOn opening.old opening.new result }
-        ensures slot { stand_of self.new.seat.now.view ≡ stand_of self.old.seat.now.view }
+        ensures slot { side_of self.new.seat.now.view ≡ side_of self.old.seat.now.view }
+        ensures good { self.old.seat.now.view.by ≡ None → self.new.seat.now.view.by ≡ None }
         ensures calls { self.new.seat.now.view.calls ≡ self.old.seat.now.view.calls }
         ensures same { IsSameSeat self.old self.new }
     {

@@ -6,7 +6,6 @@ use Rattle.run_shows.specs.Given.SeizeWordsDeclared.at.At.TheVariants.{Root, Wor
 use Rattle.run_shows.specs.Given.SeizeWordsMem.{Mem, value_at, word_at}
 use Rattle.run_shows.specs.Given.SeizeWordsOp.{Taken}
 use Rattle.run_shows.specs.Given.SeizeWordsPlan.{Then, Now, Ends}
-use Rattle.run_shows.specs.Given.SeizeLaw.{holds}
 use Rattle.run_shows.specs.Given.SeizeWorld.{World}
 use Rattle.run_shows.specs.Given.SeizeDeclared.advance.Advance.{Advance}
 use Rattle.run_shows.specs.Given.TablesFinding.{may_name}
@@ -41,12 +40,11 @@ use Rattle.run_shows.specs.Given.RuleInWorld.{IsMapIn}
 use Rattle.owner_facts.specs.Given.PointsFactsCalls.{Change, Holding, Apart, InBlock, ByReply, holding, HasOwn, HasIts, IsOwnPair, CallingFacts, CallFacts}
 use Rattle.owner_facts.specs.Given.PointsFactsTables.{NewTableFacts}
 use Rattle.owner_facts.specs.Given.PointsTold.{IsRowOfCall}
-use Rattle.owner_facts.specs.Given.CallersKept.{IsWithin}
 use Rattle.many_acts.specs.Looks.Blocks.{MayLookAt}
 use Rattle.many_acts.specs.Looks.Sees.{HasSeen}
 use Rattle.many_acts.proofs.Looks.Sees.Copiers.{root_link, next_link, copier_sees, copier_sees_at_once}
 use Rattle.many_acts.proofs.Looks.Sees.Disposals.{dispose_sees}
-use Rattle.many_acts.proofs.Looks.Sees.Held.{sees_link}
+use Rattle.many_acts.proofs.Looks.Sees.Held.{AllSeen, sees_link}
 use Rattle.many_acts.proofs.Looks.Sees.Lookups.{tried_held, lookup_sees}
 use Rattle.many_acts.proofs.Looks.Sees.Operations.{loads, exchanges, makes, takes, rewrites}
 use Rattle.many_acts.proofs.Looks.Sees.Own.{KeepsIt, told_keeps}
@@ -54,7 +52,7 @@ use Rattle.many_acts.proofs.Looks.Sees.Plans.{seen_as}
 use Rattle.many_acts.proofs.Looks.Sees.Tables.{new_table_sees}
 
 module _ {K V Q : Type 0} (same : K → K → Bool) (hash : K → ℕ) (asks : Q → K → Bool) (fits : (k : K) → hash k < 2 ^ 64) (w : World (Node K V)) (slot caller : ℕ) (c : Chart K) (seen : Blocks)
-    (setting within_setting : Setting) (within : IsWithin w slot c seen within_setting) (map : IsMapIn same hash setting w c seen)
+    (setting : Setting) (Held : ℕ → Type 0) (within : AllSeen Held c seen) (map : IsMapIn same hash setting w c seen)
     (keys : K → Bool) (change : Change) (p : KeyCall K V Q) (setting_is : p.setting ≡ setting) (code : p.hash < 2 ^ 64) where
   -- its own pair was seen, and no more was done: it goes on with it
   pub record SawOwn (b : ℕ) (n : Mem (Node K V)) (end : KeyCall K V Q × Called (Node K V)) : Type 0 where
@@ -66,7 +64,7 @@ module _ {K V Q : Type 0} (same : K → K → Bool) (hash : K → ℕ) (asks : Q
 
   module _ (b : ℕ) (n : Mem (Node K V)) (end : KeyCall K V Q × Called (Node K V)) where
     abbrev IsHeld : Type 0
-    IsHeld = holds slot b w.log ≡ true
+    IsHeld = Held b
 
     abbrev pub Lasts : Type 0
     Lasts = IsHeld ⊎ SawOwn b n end
@@ -86,11 +84,11 @@ module _ {K V Q : Type 0} (same : K → K → Bool) (hash : K → ℕ) (asks : Q
     -- the word of its try was read
     module _ (same_memory : n ≡ w.memory) (t j : ℕ) (trial : IsTrial c seen p.trial p.hash t j) (loaded : Bool) (word : ℕ) (read : word_at w.memory (place_tried p.trial) ≡ Some word) where
       -- the pair that it may name
-      pair_held : may_name p.hash word ≡ true → holds slot (word / 2048) w.log ≡ true
-      pair_held = tried_held same hash fits w slot caller c seen setting within_setting within map p.trial p.hash t j trial word read
+      pair_held : may_name p.hash word ≡ true → Held (word / 2048)
+      pair_held = tried_held same hash fits w slot caller c seen setting Held within map p.trial p.hash t j trial word read
 
       by_pair : may_name p.hash word ≡ true → b ≡ word / 2048 → Lasts
-      by_pair may is = inl (subst (λ (x : ℕ). holds slot x w.log ≡ true) (sym is) (pair_held may))
+      by_pair may is = inl (subst (λ (x : ℕ). Held x) (sym is) (pair_held may))
 
       by_key : may_name p.hash word ≡ true → IsOwnPair same hash asks w caller setting c seen keys change p.own p.hash → EndsSeeing (key_read asks same loaded p word None) → Lasts
       by_key may own ((value, is, ends), inl mine) = inr (record {
@@ -181,13 +179,13 @@ module _ {K V Q : Type 0} (same : K → K → Bool) (hash : K → ℕ) (asks : Q
     pub root_lasts : HasSeen b w.memory (plan_at asks same hash p at.Roots) n end → Lasts
     root_lasts saw =
         let l = loads b w.memory n (Root p.setting.root) end (call.root_found p) saw in
-        inl (sees_link w slot c seen within_setting within shown l.0 c.first (root_link same hash fits w slot caller c seen setting within_setting within map l.0 (root_at l.0 l.1))
+        inl (sees_link w slot c seen Held within shown l.0 c.first (root_link same hash fits w slot caller c seen setting Held within map l.0 (root_at l.0 l.1))
         (tableless p.missing p) (λ value. entering p (table_seen l.0 value)) b l.3.1)
 
     pub next_lasts : (t : ℕ) → IsTable c seen p.trial.table t → HasSeen b w.memory (plan_at asks same hash p at.Nexts) n end → Lasts
     next_lasts t entered saw =
         let l = loads b w.memory n (at_word p.trial.table NEXT) end (call.next_found p) saw in
-        inl (sees_link w slot c seen within_setting within shown l.0 (suc t) (next_link same hash fits w slot caller c seen setting within_setting within map p.trial.table t entered l.0 l.1)
+        inl (sees_link w slot c seen Held within shown l.0 (suc t) (next_link same hash fits w slot caller c seen setting Held within map p.trial.table t entered l.0 l.1)
         (at_last p.missing p) (λ value. continued_in p (table_seen l.0 value)) b l.3.1)
 
     -- it is at a try
@@ -205,7 +203,7 @@ module _ {K V Q : Type 0} (same : K → K → Bool) (hash : K → ℕ) (asks : Q
     pub alloc_lasts : (making : NewTable) (t : ℕ) → NewTableFacts w caller setting c seen (Word (seen.table t) NEXT) (suc t) making → HasSeen b w.memory (plan_at asks same hash p (at.Allocs making)) n end → Lasts
     alloc_lasts making t making_facts saw =
         let s = seen_as (call.next_made p) b w.memory (new_table_plan making) n end saw in
-        inl (new_table_sees w slot caller c seen setting within_setting within (Word (seen.table t) NEXT) (suc t) making b n s.0 making_facts s.2)
+        inl (new_table_sees w slot caller c seen setting Held within (Word (seen.table t) NEXT) (suc t) making b n s.0 making_facts s.2)
 
     -- its lookup has seen what its section holds, whatever it is asked with
     pub looked_lasts : (l : Lookup) → ((asked : K → Bool) (next : Lookup × Advance (Option ℕ)) → HasSeen b w.memory (lookup_plan asked l) n next → IsHeld)
@@ -219,7 +217,7 @@ module _ {K V Q : Type 0} (same : K → K → Bool) (hash : K → ℕ) (asks : Q
     lasts_at : (stands : Calling) → CallingFacts same hash asks w caller setting c seen keys change p stands → (IsRowOfCall stands → ⊥) → HasSeen b w.memory (plan_at asks same hash p stands) n end → Lasts
     lasts_at at.Makes point none saw = absurd (none_made p.unmade saw)
     lasts_at (at.Looks l) (own, missing, there, q, asked, agree, looks) none saw =
-        looked_lasts l (λ with next seen_so. lookup_sees same hash fits w slot caller c seen setting within_setting within map keys with p.hash l looks b n next seen_so) saw
+        looked_lasts l (λ with next seen_so. lookup_sees same hash fits w slot caller c seen setting Held within map keys with p.hash l looks b n next seen_so) saw
     lasts_at at.Roots point none saw = root_lasts saw
     lasts_at at.Probes (its, (t, j, trial, before, root)) none saw = probe_lasts its t j trial saw
     lasts_at (at.Tries word new) (its, may, (t, j, trial, before, root)) none saw = try_lasts word new its t j trial saw
@@ -227,18 +225,18 @@ module _ {K V Q : Type 0} (same : K → K → Bool) (hash : K → ℕ) (asks : Q
     lasts_at at.Nexts (its, t, (entered, shut)) none saw = next_lasts t entered saw
     lasts_at (at.Firsts making) (its, stores, making_facts) none saw =
         let s = seen_as (call.first_made p) b w.memory (new_table_plan making) n end saw in
-        inl (new_table_sees w slot caller c seen setting within_setting within (Root setting.root) 0 making b n s.0 making_facts s.2)
+        inl (new_table_sees w slot caller c seen setting Held within (Root setting.root) 0 making b n s.0 making_facts s.2)
     lasts_at (at.Allocs making) (its, t, tried, making_facts) none saw = alloc_lasts making t making_facts saw
     lasts_at (at.Helps copier goal) (its, incr, part, t, entered, shut, copier_facts) none saw =
         let s = seen_as (call.helped p goal) b w.memory (copier_plan hash copier) n end saw in
-        inl (copier_sees same hash fits w slot caller c seen setting within_setting within map copier copier_facts none b n s.0 s.2)
+        inl (copier_sees same hash fits w slot caller c seen setting Held within map copier copier_facts none b n s.0 s.2)
     lasts_at (at.Copies copier) (its, blocking, copier_facts) none saw =
         let s = seen_as (call.copied p) b w.memory (copier_plan hash copier) n end saw in
-        inl (copier_sees_at_once same hash fits w slot caller c seen setting within_setting within map copier copier_facts none b n s.0 s.2)
+        inl (copier_sees_at_once same hash fits w slot caller c seen setting Held within map copier copier_facts none b n s.0 s.2)
     lasts_at (at.Asks stands) point none saw = absurd (none_asks stands saw)
     lasts_at (at.Disposes dispose answer) (dispose_facts, tells) none saw =
         let s = seen_as (call.disposed p answer) b w.memory (dispose_plan dispose) n end saw in
-        inl (dispose_sees same hash fits w slot caller c seen setting within_setting within map dispose dispose_facts b n s.0 none s.2)
+        inl (dispose_sees same hash fits w slot caller c seen setting Held within map dispose dispose_facts b n s.0 none s.2)
     lasts_at (at.Drops over) point none saw = let t = takes b w.memory n end (call.dropped p over) (p.own / 2048) saw in absurd t.1.1
     lasts_at (at.Over over) point none saw = absurd saw.2
 

@@ -4,7 +4,6 @@ use Rattle.std.proofs.Common.{◌≡◌, ℕ, suc, Bool, true, false, inl, inr, 
 use Rattle.std.proofs.lemmas.Bool.{eqb-false}
 use Rattle.run_shows.specs.Given.SeizeWordsDeclared.at.At.TheVariants.{Root, Word}
 use Rattle.run_shows.specs.Given.SeizeWordsMem.{Mem, value_at, word_at}
-use Rattle.run_shows.specs.Given.SeizeLaw.{holds}
 use Rattle.run_shows.specs.Given.SeizeWorld.{World}
 use Rattle.run_shows.specs.Given.TablesNodes.{table_seen}
 use Rattle.run_shows.specs.Given.TablesTablePlaces.{at_word, at_place}
@@ -44,15 +43,14 @@ use Rattle.owner_facts.specs.Given.PointsFactsCopiesBlocking.{CopyingFactsBlocki
 use Rattle.owner_facts.specs.Given.LateLateCopies.{SupersededCopying, SupersededCopierFacts}
 use Rattle.owner_facts.specs.Given.PointsFactsTables.{NewTableFacts}
 use Rattle.owner_facts.specs.Given.PointsTold.{IsRowOfCopier}
-use Rattle.owner_facts.specs.Given.CallersKept.{IsWithin}
 use Rattle.many_acts.specs.Looks.Sees.{HasSeen}
-use Rattle.many_acts.proofs.Looks.Sees.Held.{table_held, sees_link, pair_held}
+use Rattle.many_acts.proofs.Looks.Sees.Held.{AllSeen, table_held, sees_link, pair_held}
 use Rattle.many_acts.proofs.Looks.Sees.Operations.{none_if, loads, adds, ors, exchanges}
 use Rattle.many_acts.proofs.Looks.Sees.Plans.{seen_as, sees_if, sees_one}
 use Rattle.many_acts.proofs.Looks.Sees.Tables.{new_table_sees}
 
 module _ {K V : Type 0} (same : K → K → Bool) (hash : K → ℕ) (fits : (k : K) → hash k < 2 ^ 64) (w : World (Node K V)) (slot caller : ℕ) (c : Chart K) (seen : Blocks)
-    (setting within_setting : Setting) (within : IsWithin w slot c seen within_setting) (map : IsMapIn same hash setting w c seen) where
+    (setting : Setting) (Held : ℕ → Type 0) (within : AllSeen Held c seen) (map : IsMapIn same hash setting w c seen) where
   -- what is seen by the link of the root, or by that to the table behind one
   pub root_link : (link : ℕ) → word_at w.memory (Root setting.root) ≡ Some link → LeadsTo c seen link c.first
   root_link link read = root_leads same hash setting.mode setting.root w.memory c seen map.map link read
@@ -61,23 +59,23 @@ module _ {K V : Type 0} (same : K → K → Bool) (hash : K → ℕ) (fits : (k 
   next_link table t entered link read = next_leads same hash setting.mode setting.root w.memory c seen map.map table t link entered read
 
   -- where a table was made, the root has one
-  pub root_held : 0 < c.past → (link : ℕ) → word_at w.memory (Root setting.root) ≡ Some link → holds slot (link / 2048) w.log ≡ true
-  root_held some link read = table_held w slot c seen within_setting within link c.first (link_made c seen link c.first (root_link link read) (map.map.rule.common.rooted some))
+  pub root_held : 0 < c.past → (link : ℕ) → word_at w.memory (Root setting.root) ≡ Some link → Held (link / 2048)
+  root_held some link read = table_held w slot c seen Held within link c.first (link_made c seen link c.first (root_link link read) (map.map.rule.common.rooted some))
 
   -- the pair of a place, by the word that was read there
   pub place_held : (table : Table) (t i : ℕ) → IsTable c seen table t → i < c.len t → (word : ℕ) → word_at w.memory (at_place table i) ≡ Some word → (word / 2048 == 0) ≡ false
-      → holds slot (word / 2048) w.log ≡ true
+      → Held (word / 2048)
   place_held table t i entered inside word read some =
       let there = place_there hash w.memory c seen setting.root map.map.shows table t entered i inside in
       let is : word ≡ place_word hash c seen (c.place t i) = cc (there, read) in
       let ne = eqb-false (word / 2048) 0 some in
-      subst (λ (x : ℕ). holds slot (x / 2048) w.log ≡ true) (sym is)
-      (pair_held w slot c seen within_setting within hash fits setting.root w.memory map.map.shows (are_stored same (spot_of hash) (is_incremental setting.mode) c map.map.rule.common) t i
+      subst (λ (x : ℕ). Held (x / 2048)) (sym is)
+      (pair_held w slot c seen Held within hash fits setting.root w.memory map.map.shows (are_stored same (spot_of hash) (is_incremental setting.mode) c map.map.rule.common) t i
       entered.made entered.known (omega (arith, is, ne)))
 
   module _ (p : Copier) (setting_is : p.setting ≡ setting) (b : ℕ) (n : Mem (Node K V)) (end : Copier × Yielding (Node K V) Table) where
     abbrev IsHeld : Type 0
-    IsHeld = holds slot b w.log ≡ true
+    IsHeld = Held b
 
     abbrev Saw : Copying → Type 0
     Saw stands = HasSeen b w.memory (copier.plan_at hash p stands) n end
@@ -89,13 +87,13 @@ module _ {K V : Type 0} (same : K → K → Bool) (hash : K → ℕ) (fits : (k 
     begins some saw =
         let l = loads b w.memory n (Root p.setting.root) end (claims.root_read p) saw in
         let read : word_at w.memory (Root setting.root) ≡ Some l.0 = ap (λ (x : Setting). word_at w.memory (Root x.root)) (sym setting_is) ∙ l.1 in
-        subst (λ (x : ℕ). holds slot x w.log ≡ true)
+        subst (λ (x : ℕ). Held x)
         (sym (sees_one {R = Copier × Yielding (Node K V) Table} b (l.0 / 2048) shown (λ value. (record p { source = table_seen l.0 value; stands = at.Follows }, Goes)) l.3.1)) (root_held some l.0 read)
 
     follows : (t : ℕ) → IsTable c seen p.source t → Saw at.Follows → IsHeld
     follows t entered saw =
         let l = loads b w.memory n (at_word p.source NEXT) end (claims.next_read p) saw in
-        sees_link w slot c seen within_setting within shown l.0 (suc t) (next_link p.source t entered l.0 l.1) _ (λ value. (record p { target = table_seen l.0 value; stands = at.Sees }, Goes)) b l.3.1
+        sees_link w slot c seen Held within shown l.0 (suc t) (next_link p.source t entered l.0 l.1) _ (λ value. (record p { target = table_seen l.0 value; stands = at.Sees }, Goes)) b l.3.1
 
     asks : Saw at.Asks → IsHeld
     asks saw =
@@ -119,7 +117,7 @@ module _ {K V : Type 0} (same : K → K → Bool) (hash : K → ℕ) (fits : (k 
           | inl mine ↦ elim (sees_if b shown (l.0 / 2048 == 0) _ _ mine.1) as (λ _. IsHeld) [
             | inl none ↦ absurd none.1
             | inr some ↦
-                subst (λ (x : ℕ). holds slot x w.log ≡ true)
+                subst (λ (x : ℕ). Held x)
                 (sym (sees_one {R = Copier × Yielding (Node K V) Table} b (l.0 / 2048) shown (λ value. (marks.probing p (marks.without_copying l.0) (marks.key_hash hash value) p.target, Goes)) some.1))
                 (place_held p.source t p.place entered inside l.0 l.1 some.0)
           ]
@@ -141,7 +139,7 @@ module _ {K V : Type 0} (same : K → K → Bool) (hash : K → ℕ) (fits : (k 
     pass : (word code : ℕ) (table : Table) (t : ℕ) → IsTable c seen table t → Saw (at.Passes word code table) → IsHeld
     pass word code table t entered saw =
         let l = loads b w.memory n (at_word table NEXT) end (further.further_read p word code table) saw in
-        sees_link w slot c seen within_setting within shown l.0 (suc t) (next_link table t entered l.0 l.1) _ (λ value. (marks.probing p word code (table_seen l.0 value), Goes)) b l.3.1
+        sees_link w slot c seen Held within shown l.0 (suc t) (next_link table t entered l.0 l.1) _ (λ value. (marks.probing p word code (table_seen l.0 value), Goes)) b l.3.1
 
     count : Saw at.Counts → IsHeld
     count saw =
@@ -160,12 +158,12 @@ module _ {K V : Type 0} (same : K → K → Bool) (hash : K → ℕ) (fits : (k 
     replace : (t : ℕ) → IsTable c seen p.target t → Saw at.Replaces → IsHeld
     replace t entered saw =
         let l = loads b w.memory n (at_word p.target NEXT) end (further.replacement_read p) saw in
-        sees_link w slot c seen within_setting within shown l.0 (suc t) (next_link p.target t entered l.0 l.1) _ (λ value. (further.anew p (table_seen l.0 value), Goes)) b l.3.1
+        sees_link w slot c seen Held within shown l.0 (suc t) (next_link p.target t entered l.0 l.1) _ (λ value. (further.anew p (table_seen l.0 value), Goes)) b l.3.1
 
     remake : (t : ℕ) (making : NewTable) → NewTableFacts w caller setting c seen (Word (seen.table t) NEXT) (suc t) making → Saw (at.Remakes making) → IsHeld
     remake t making facts saw =
         let s = seen_as (further.remade p) b w.memory (new_table_plan making) n end saw in
-        new_table_sees w slot caller c seen setting within_setting within (Word (seen.table t) NEXT) (suc t) making b n s.0 facts s.2
+        new_table_sees w slot caller c seen setting Held within (Word (seen.table t) NEXT) (suc t) making b n s.0 facts s.2
 
     -- in incremental mode
     by_point : (stands : Copying) → CopyingFacts same hash w caller setting c seen p stands → (IsRowOfCopier stands → ⊥) → Saw stands → IsHeld
@@ -181,7 +179,7 @@ module _ {K V : Type 0} (same : K → K → Bool) (hash : K → ℕ) (fits : (k 
     by_point (at.Passes word code table) (m, k, t, works, code_is, behind, entered, looks) none saw = pass word code table t entered saw
     by_point (at.Grows word code making) (m, k, t, works, code_is, behind, looks, made, known, facts) none saw =
         let s = seen_as (further.grown p word code) b w.memory (new_table_plan making) n end saw in
-        new_table_sees w slot caller c seen setting within_setting within (Word (seen.table t) NEXT) (suc t) making b n s.0 facts s.2
+        new_table_sees w slot caller c seen setting Held within (Word (seen.table t) NEXT) (suc t) making b n s.0 facts s.2
     by_point at.Aborts point none saw = absurd point
     by_point at.Replaces point none saw = absurd point
     by_point (at.Remakes making) point none saw = absurd point
@@ -243,13 +241,13 @@ module _ {K V : Type 0} (same : K → K → Bool) (hash : K → ℕ) (fits : (k 
     by_left began _ point none saw = absurd point
 
   pub copier_sees : (p : Copier) → CopierFacts same hash w caller setting c seen p → (IsRowOfCopier p.stands → ⊥) → (b : ℕ) (n : Mem (Node K V)) (end : Copier × Yielding (Node K V) Table)
-      → HasSeen b w.memory (copier_plan hash p) n end → holds slot b w.log ≡ true
+      → HasSeen b w.memory (copier_plan hash p) n end → Held b
   copier_sees p facts none b n end saw = by_point p facts.setting_is b n end p.stands facts.point none saw
 
   pub copier_sees_at_once : (p : Copier) → CopierFactsBlocking same hash w caller setting c seen p → (IsRowOfCopier p.stands → ⊥) → (b : ℕ) (n : Mem (Node K V)) (end : Copier × Yielding (Node K V) Table)
-      → HasSeen b w.memory (copier_plan hash p) n end → holds slot b w.log ≡ true
+      → HasSeen b w.memory (copier_plan hash p) n end → Held b
   copier_sees_at_once p facts none b n end saw = at_once p facts.setting_is b n end p.stands facts.point none saw
 
   pub left_copier_sees : (began : ℕ) (p : Copier) → SupersededCopierFacts same hash w caller setting c seen began p → (IsRowOfCopier p.stands → ⊥) → (b : ℕ) (n : Mem (Node K V))
-      (end : Copier × Yielding (Node K V) Table) → HasSeen b w.memory (copier_plan hash p) n end → holds slot b w.log ≡ true
+      (end : Copier × Yielding (Node K V) Table) → HasSeen b w.memory (copier_plan hash p) n end → Held b
   left_copier_sees began p facts none b n end saw = by_left p facts.setting_is b n end began p.stands facts.point none saw

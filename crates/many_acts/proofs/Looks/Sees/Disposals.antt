@@ -4,7 +4,6 @@ use Rattle.std.proofs.Common.{◌≡◌, ℕ, Bool, true, inl, inr, sym, subst, 
 use Rattle.run_shows.specs.Given.SeizeWordsDeclared.at.At.TheVariants.{Root, Word}
 use Rattle.run_shows.specs.Given.SeizeWordsMem.{Mem, value_at, word_at}
 use Rattle.run_shows.specs.Given.SeizeWordsOp.{Found}
-use Rattle.run_shows.specs.Given.SeizeLaw.{holds}
 use Rattle.run_shows.specs.Given.SeizeWorld.{World}
 use Rattle.run_shows.specs.Given.SeizeDeclared.rows.settle.Settled.{Settled}
 use Rattle.run_shows.specs.Given.TablesNodes.{table_seen}
@@ -22,17 +21,17 @@ use Rattle.run_shows.specs.Given.RuleWords.{Blocks}
 use Rattle.run_shows.specs.Given.RuleInWorld.{IsMapIn}
 use Rattle.owner_facts.specs.Given.PointsFactsDisposes.{DisposeFacts}
 use Rattle.owner_facts.specs.Given.PointsTold.{IsRowOf}
-use Rattle.owner_facts.specs.Given.CallersKept.{IsWithin}
 use Rattle.many_acts.specs.Looks.Blocks.{MayLookAt}
 use Rattle.many_acts.specs.Looks.Sees.{HasSeen}
+use Rattle.many_acts.proofs.Looks.Sees.Held.{AllSeen}
 use Rattle.many_acts.proofs.Looks.Sees.Copiers.{root_held}
 use Rattle.many_acts.proofs.Looks.Sees.Operations.{none_if, loads}
 
 module _ {K V : Type 0} (same : K → K → Bool) (hash : K → ℕ) (fits : (k : K) → hash k < 2 ^ 64) (w : World (Node K V)) (slot caller : ℕ) (c : Chart K) (seen : Blocks)
-    (setting within_setting : Setting) (within : IsWithin w slot c seen within_setting) (map : IsMapIn same hash setting w c seen)
+    (setting : Setting) (Held : ℕ → Type 0) (within : AllSeen Held c seen) (map : IsMapIn same hash setting w c seen)
     (p : Dispose) (facts : DisposeFacts w caller setting c seen p) (b : ℕ) (n : Mem (Node K V)) (end : Dispose × Settled (Node K V)) where
   abbrev IsHeld : Type 0
-  IsHeld = holds slot b w.log ≡ true
+  IsHeld = Held b
 
   -- by the root's table nothing further is seen
   compared_none : (root : ℕ) (table : Table) → MayLookAt b (value_at n) (dispose.compared {K = K} {V = V} p root table) → ⊥
@@ -41,8 +40,8 @@ module _ {K V : Type 0} (same : K → K → Bool) (hash : K → ℕ) (fits : (k 
   root_seen : (root : ℕ) → word_at w.memory (Root setting.root) ≡ Some root → MayLookAt b (value_at n) (dispose.root_read {K = K} {V = V} p (Found root)) → IsHeld
   root_seen root read (inl is) =
       let made = facts.table.made in
-      subst (λ (x : ℕ). holds slot x w.log ≡ true) (sym is)
-      (root_held same hash fits w slot caller c seen setting within_setting within map (omega (arith, made)) root read)
+      subst (λ (x : ℕ). Held x) (sym is)
+      (root_held same hash fits w slot caller c seen setting Held within map (omega (arith, made)) root read)
   root_seen root read (inr (value, shown, sees)) = absurd (compared_none root (table_seen root value) sees)
 
   by_point : (stands : Disposing) → (IsRowOf stands → ⊥) → HasSeen b w.memory (dispose.plan_at p stands) n end → IsHeld

@@ -2,7 +2,7 @@
 use Rattle.std.specs.Prelude.{◌==◌, ◌/◌, ◌<◌, ◌^◌, Option, Some}
 use Rattle.std.proofs.Common.{◌≡◌, ℕ, Bool, true, ◌⊎◌, inl, inr, sym, subst, ap, ◌∙◌}
 use Rattle.run_shows.specs.Given.SeizeWordsMem.{Mem}
-use Rattle.run_shows.specs.Given.SeizeLaw.{holds}
+use Rattle.run_shows.specs.Given.SeizeLaw.{holds, owner_of}
 use Rattle.run_shows.specs.Given.SeizeWorld.{World, IsInside}
 use Rattle.run_shows.specs.Given.TablesDeclared.node.Node.{Node}
 use Rattle.run_shows.specs.Given.TablesDeclared.setting.Setting.{Setting}
@@ -27,7 +27,6 @@ use Rattle.owner_facts.specs.Given.PointsSteps.{AreLawful}
 use Rattle.owner_facts.specs.Given.PointsTold.{IsRowOfCall}
 use Rattle.owner_facts.specs.Given.LateToldReserves.{IsRowOfReserve}
 use Rattle.owner_facts.specs.Given.LateToldSweeps.{IsRowOfSweep}
-use Rattle.owner_facts.specs.Given.CallersKept.{IsWithin}
 use Rattle.owner_facts.specs.Given.CallersOverAll.{CallOverAll}
 use Rattle.owner_facts.specs.Given.CallersRooms.{CallForRoom}
 use Rattle.owner_facts.specs.Given.CallersSights.{seen_by}
@@ -40,6 +39,7 @@ use Rattle.many_acts.specs.Looks.Looks.{IsAtRow}
 use Rattle.many_acts.specs.Looks.Sees.{HasSeen, Continues, IsOwnOf, StepsSeeWhatLasts}
 use Rattle.many_acts.proofs.Looks.Lookups.{within, map}
 use Rattle.many_acts.proofs.Looks.Sees.Calls.{SawOwn, call_lasts}
+use Rattle.many_acts.proofs.Looks.Sees.Held.{AllSeen}
 use Rattle.many_acts.proofs.Looks.Sees.Left.{left_call_lasts}
 use Rattle.many_acts.proofs.Looks.Sees.Own.{IsOn}
 use Rattle.many_acts.proofs.Looks.Sees.Plans.{seen_as}
@@ -66,8 +66,12 @@ module _ {K Q : Type 0} (V : Type 0) (same : K → K → Bool) (asks : Q → K �
     lawful : AreLawful same s.hash
     lawful = (all.makings.standing.fit m s stands).0
 
+    -- the section holds a block of the map
+    abbrev IsHeld : ℕ → Type 0
+    IsHeld x = (holds (slot i) x w.log ≡ true) × (owner_of x w.log ≡ s.setting.counter)
+
     abbrev Lasts : Type 0
-    Lasts = (holds (slot i) b w.log ≡ true) ⊎ (IsOwnOf machine b × Continues told)
+    Lasts = IsHeld b ⊎ (IsOwnOf machine b × Continues told)
 
     abbrev here : Setting
     here = in_slot s.setting (slot i)
@@ -76,8 +80,13 @@ module _ {K Q : Type 0} (V : Type 0) (same : K → K → Bool) (asks : Q → K �
     its_seen = seen_by s.blocks (s.sights (slot i))
 
     module _ (inside : IsInside (w.uses (slot i))) where
-      its_within : IsWithin w (slot i) s.chart its_seen s.setting
-      its_within = within same s.hash asks s.setting slot lawful w s.chart s.blocks s.sights (calls m) together i inside
+      its_within : AllSeen IsHeld s.chart its_seen
+      its_within =
+          let all_within = within same s.hash asks s.setting slot lawful w s.chart s.blocks s.sights (calls m) together i inside in
+          let sight = (together.ground.sight (slot i) inside).0 in record {
+            tables = λ t made known. (all_within.tables t made known, together.ground.owned.tables t made (sight.tables t made known));
+            pairs = λ n stored known. (all_within.pairs n stored known, together.ground.owned.pairs n stored (sight.pairs n stored known));
+          }
 
       its_map : IsMapIn same s.hash here w s.chart its_seen
       its_map = map same s.hash asks s.setting slot lawful w s.chart s.blocks s.sights (calls m) together i inside
@@ -89,7 +98,7 @@ module _ {K Q : Type 0} (V : Type 0) (same : K → K → Bool) (asks : Q → K �
 
         -- where the call has come to with its own pair
         own_lasts : (change : Change) (setting_is : u.call.setting ≡ here) (code : u.call.hash < 2 ^ 64) (first : KeyCall K V Q × Called (Node K V)) → machine ≡ kinds.Key first.0 → told ≡ of_called first.1
-            → SawOwn same s.hash asks (lawful.fits) w (slot i) i s.chart its_seen here s.setting its_within its_map u.keys change u.call setting_is code b m2 first → IsOwnOf machine b × Continues told
+            → SawOwn same s.hash asks (lawful.fits) w (slot i) i s.chart its_seen here IsHeld its_within its_map u.keys change u.call setting_is code b m2 first → IsOwnOf machine b × Continues told
         own_lasts change setting_is code first is_machine is_told own =
             let keeps = own.keeps in (
               subst (λ (x : Machine K V Q). IsOwnOf x b) (sym is_machine) (keeps.1, ap (λ (x : ℕ). x == 0) keeps.0 ∙ own.some, own.block ∙ ap (λ (x : ℕ). x / 2048) (sym keeps.0)),
@@ -99,7 +108,7 @@ module _ {K Q : Type 0} (V : Type 0) (same : K → K → Bool) (asks : Q → K �
         key_lasts : Facts → HasSeen b w.memory (machine_plan asks same s.hash (kinds.Key u.call)) m2 (machine, told) → Lasts
         key_lasts facts saw =
             let first = seen_as machines.called b w.memory (call_plan asks same s.hash u.call) m2 (machine, told) saw in
-            elim (call_lasts same s.hash asks (lawful.fits) w (slot i) i s.chart its_seen here s.setting its_within its_map u.keys u.change u.call facts.setting_is facts.code b m2 first.0 facts none
+            elim (call_lasts same s.hash asks (lawful.fits) w (slot i) i s.chart its_seen here IsHeld its_within its_map u.keys u.change u.call facts.setting_is facts.code b m2 first.0 facts none
             first.2) as (λ _. Lasts) [
               | inl held ↦ inl held
               | inr own ↦ inr (own_lasts u.change facts.setting_is facts.code first.0 (ap (λ (x : Machine K V Q × Progress (Node K V)). x.0) first.1) (ap (λ (x : Machine K V Q × Progress (Node K V)). x.1) first.1) own)
@@ -108,7 +117,7 @@ module _ {K Q : Type 0} (V : Type 0) (same : K → K → Bool) (asks : Q → K �
         left_lasts : SupersededCallFacts same s.hash asks w i here s.chart its_seen u.keys u.began u.call → HasSeen b w.memory (machine_plan asks same s.hash (kinds.Key u.call)) m2 (machine, told) → Lasts
         left_lasts facts saw =
             let first = seen_as machines.called b w.memory (call_plan asks same s.hash u.call) m2 (machine, told) saw in
-            elim (left_call_lasts same s.hash asks (lawful.fits) w (slot i) i s.chart its_seen here s.setting its_within its_map u.keys u.began u.call facts b m2 first.0 none first.2) as (λ _. Lasts) [
+            elim (left_call_lasts same s.hash asks (lawful.fits) w (slot i) i s.chart its_seen here IsHeld its_within its_map u.keys u.began u.call facts b m2 first.0 none first.2) as (λ _. Lasts) [
               | inl held ↦ inl held
               | inr own ↦ inr (own_lasts Unchanged facts.setting_is facts.code first.0 (ap (λ (x : Machine K V Q × Progress (Node K V)). x.0) first.1)
                   (ap (λ (x : Machine K V Q × Progress (Node K V)). x.1) first.1) own)
@@ -123,20 +132,20 @@ module _ {K Q : Type 0} (V : Type 0) (same : K → K → Bool) (asks : Q → K �
         key_stands (inr (row, is_row, knows)) saw = absurd (none is_row)
 
       room_held : (r : CallForRoom) → (IsRowOfReserve r.reserve.stands → ⊥) → IsAtPoint V same s.hash asks s.setting slot w s.chart its_seen i (ForRoom r)
-          → HasSeen b w.memory (machine_plan asks same s.hash (kinds.Reserve r.reserve)) m2 (machine, told) → holds (slot i) b w.log ≡ true
+          → HasSeen b w.memory (machine_plan asks same s.hash (kinds.Reserve r.reserve)) m2 (machine, told) → IsHeld b
       room_held r none (inl (rests, knows)) saw =
           let first = seen_as machines.reserved b w.memory (reserve_plan s.hash r.reserve) m2 (machine, told) saw in
-          elim knows.facts as (λ _. holds (slot i) b w.log ≡ true) [
-            | inl facts ↦ reserve_sees same s.hash (lawful.fits) w (slot i) i s.chart its_seen here s.setting its_within its_map b m2 r.reserve facts first.0 none first.2
-            | inr late ↦ left_reserve_sees same s.hash (lawful.fits) w (slot i) i s.chart its_seen here s.setting its_within its_map b m2 r.began r.reserve late first.0 none first.2
+          elim knows.facts as (λ _. IsHeld b) [
+            | inl facts ↦ reserve_sees same s.hash (lawful.fits) w (slot i) i s.chart its_seen here IsHeld its_within its_map b m2 r.reserve facts first.0 none first.2
+            | inr late ↦ left_reserve_sees same s.hash (lawful.fits) w (slot i) i s.chart its_seen here IsHeld its_within its_map b m2 r.began r.reserve late first.0 none first.2
           ]
       room_held r none (inr (row, is_row, knows)) saw = absurd (none is_row)
 
       sweep_held : (o : CallOverAll) → (IsRowOfSweep o.sweep.stands → ⊥) → IsAtPoint V same s.hash asks s.setting slot w s.chart its_seen i (OverAll o)
-          → HasSeen b w.memory (machine_plan asks same s.hash (kinds.Sweep o.sweep)) m2 (machine, told) → holds (slot i) b w.log ≡ true
+          → HasSeen b w.memory (machine_plan asks same s.hash (kinds.Sweep o.sweep)) m2 (machine, told) → IsHeld b
       sweep_held o none (inl (rests, knows)) saw =
           let first = seen_as machines.swept b w.memory (sweep_plan s.hash o.sweep) m2 (machine, told) saw in
-          sweep_sees same s.hash (lawful.fits) w (slot i) i s.chart its_seen here s.setting its_within its_map b m2 o.began o.sweep knows.facts first.0 none first.2
+          sweep_sees same s.hash (lawful.fits) w (slot i) i s.chart its_seen here IsHeld its_within its_map b m2 o.began o.sweep knows.facts first.0 none first.2
       sweep_held o none (inr (row, is_row, knows)) saw = absurd (none is_row)
 
     by_kind : (u : UnderWay K V Q) → calls m i ≡ Some u → (IsAtRow u → ⊥) → HasSeen b w.memory (machine_plan asks same s.hash (machine_of u)) m2 (machine, told)

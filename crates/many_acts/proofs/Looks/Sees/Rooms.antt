@@ -3,7 +3,6 @@ use Rattle.std.specs.Prelude.{◌/◌, ◌^◌, ◌<◌, Some, cond}
 use Rattle.std.proofs.Common.{◌≡◌, ℕ, suc, Bool, true, false, inl, inr, sym, ap, ◌∙◌}
 use Rattle.run_shows.specs.Given.SeizeWordsDeclared.at.At.TheVariants.{Root, Word}
 use Rattle.run_shows.specs.Given.SeizeWordsMem.{Mem, value_at, word_at}
-use Rattle.run_shows.specs.Given.SeizeLaw.{holds}
 use Rattle.run_shows.specs.Given.SeizeWorld.{World}
 use Rattle.run_shows.specs.Given.TablesChunks.{is_incremental}
 use Rattle.run_shows.specs.Given.TablesNodes.{table_seen}
@@ -45,20 +44,19 @@ use Rattle.owner_facts.specs.Given.LateLateCopies.{SupersededCopierFacts}
 use Rattle.owner_facts.specs.Given.LateLateReserves.{SupersededReserving, SupersededReserveFacts}
 use Rattle.owner_facts.specs.Given.LateToldReserves.{IsRowOfReserve}
 use Rattle.owner_facts.specs.Given.LateToldSweeps.{IsRowOfSweep}
-use Rattle.owner_facts.specs.Given.CallersKept.{IsWithin}
 use Rattle.many_acts.specs.Looks.Sees.{HasSeen}
 use Rattle.many_acts.proofs.Looks.Sees.Copiers.{root_link, next_link, copier_sees, copier_sees_at_once, left_copier_sees}
 use Rattle.many_acts.proofs.Looks.Sees.Disposals.{dispose_sees}
-use Rattle.many_acts.proofs.Looks.Sees.Held.{sees_link}
+use Rattle.many_acts.proofs.Looks.Sees.Held.{AllSeen, sees_link}
 use Rattle.many_acts.proofs.Looks.Sees.Operations.{loads, exchanges}
 use Rattle.many_acts.proofs.Looks.Sees.Plans.{seen_as}
 use Rattle.many_acts.proofs.Looks.Sees.Tables.{new_table_sees, sum_sees_none, left_first_sees}
 
 module _ {K V : Type 0} (same : K → K → Bool) (hash : K → ℕ) (fits : (k : K) → hash k < 2 ^ 64) (w : World (Node K V)) (slot caller : ℕ) (c : Chart K) (seen : Blocks)
-    (setting within_setting : Setting) (within : IsWithin w slot c seen within_setting) (map : IsMapIn same hash setting w c seen)
+    (setting : Setting) (Held : ℕ → Type 0) (within : AllSeen Held c seen) (map : IsMapIn same hash setting w c seen)
     (b : ℕ) (n : Mem (Node K V)) where
   abbrev IsHeld : Type 0
-  IsHeld = holds slot b w.log ≡ true
+  IsHeld = Held b
 
   -- the copier of a whole table
   whole_sees : (p : Copier) → CopiesWhole same hash w caller setting c seen p → (IsRowOfCopier p.stands → ⊥) → (end : Yielding (Node K V) Table) (to : Copier)
@@ -67,13 +65,13 @@ module _ {K V : Type 0} (same : K → K → Bool) (hash : K → ℕ) (fits : (k 
     where
       by : (incremental : Bool) → cond incremental ((p.whole ≡ true) × CopierFacts same hash w caller setting c seen p × IsEnding same hash w caller setting c seen p p.stands)
           (CopierFactsBlocking same hash w caller setting c seen p) → IsHeld
-      by true whole = copier_sees same hash fits w slot caller c seen setting within_setting within map p whole.1 none b n (to, end) saw
-      by false at_once = copier_sees_at_once same hash fits w slot caller c seen setting within_setting within map p at_once none b n (to, end) saw
+      by true whole = copier_sees same hash fits w slot caller c seen setting Held within map p whole.1 none b n (to, end) saw
+      by false at_once = copier_sees_at_once same hash fits w slot caller c seen setting Held within map p at_once none b n (to, end) saw
 
   -- and that of a table that the root has left
   left_sees : (began : ℕ) (p : Copier) → SupersededCopierFacts same hash w caller setting c seen began p → (IsRowOfCopier p.stands → ⊥) → (end : Yielding (Node K V) Table) (to : Copier)
       → HasSeen b w.memory (copier_plan hash p) n (to, end) → IsHeld
-  left_sees began p facts none end to saw = left_copier_sees same hash fits w slot caller c seen setting within_setting within map began p facts none b n (to, end) saw
+  left_sees began p facts none end to saw = left_copier_sees same hash fits w slot caller c seen setting Held within map began p facts none b n (to, end) saw
 
   module _ (p : Reserve) (facts : ReserveFacts same hash w caller setting c seen p) (end : Reserve × Yielding (Node K V) Unit) where
     root_at : (root : ℕ) → word_at w.memory (Root p.setting.root) ≡ Some root → word_at w.memory (Root setting.root) ≡ Some root
@@ -82,21 +80,21 @@ module _ {K V : Type 0} (same : K → K → Bool) (hash : K → ℕ) (fits : (k 
     reserve_at : (stands : Reserving) → ReservingFacts same hash w caller setting c seen stands → (IsRowOfReserve stands → ⊥) → HasSeen b w.memory (reserve.plan_at hash p stands) n end → IsHeld
     reserve_at reserving.Reads point none saw =
         let l = loads b w.memory n (Root p.setting.root) end (reserve.root_read p) saw in
-        sees_link w slot c seen within_setting within (value_at n) l.0 c.first (root_link same hash fits w slot caller c seen setting within_setting within map l.0 (root_at l.0 l.1)) _
+        sees_link w slot c seen Held within (value_at n) l.0 c.first (root_link same hash fits w slot caller c seen setting Held within map l.0 (root_at l.0 l.1)) _
         (λ value. (reserve.counting p (table_seen l.0 value), Goes)) b l.3.1
     reserve_at (reserving.Makes making) point none saw =
         let s = seen_as (reserve.made p) b w.memory (new_table_plan making) n end saw in
-        new_table_sees w slot caller c seen setting within_setting within (Root setting.root) 0 making b n s.0 point s.2
+        new_table_sees w slot caller c seen setting Held within (Root setting.root) 0 making b n s.0 point s.2
     reserve_at (reserving.Sums table sum) point none saw =
         let s = seen_as (reserve.summed p table) b w.memory (sum_plan sum) n end saw in absurd (sum_sees_none b w.memory n sum s.0 s.2)
     reserve_at (reserving.Follows table need) ((t, entered, root), fit) none saw =
         let l = loads b w.memory n (Word (table.link / 2048) NEXT) end (reserve.next_read p table need) saw in
-        sees_link w slot c seen within_setting within (value_at n) l.0 (suc t)
-        (next_link same hash fits w slot caller c seen setting within_setting within map table t entered l.0 l.1) _
+        sees_link w slot c seen Held within (value_at n) l.0 (suc t)
+        (next_link same hash fits w slot caller c seen setting Held within map table t entered l.0 l.1) _
         (λ value. (reserve.copying p table (table_seen l.0 value), Goes)) b l.3.1
     reserve_at (reserving.Grows table making) (t, entered, root, making_facts) none saw =
         let s = seen_as (reserve.grown p table) b w.memory (new_table_plan making) n end saw in
-        new_table_sees w slot caller c seen setting within_setting within (Word (seen.table t) NEXT) (suc t) making b n s.0 making_facts s.2
+        new_table_sees w slot caller c seen setting Held within (Word (seen.table t) NEXT) (suc t) making b n s.0 making_facts s.2
     reserve_at (reserving.Copies copier) point none saw =
         let s = seen_as (reserve.copied p) b w.memory (copier_plan hash copier) n end saw in whole_sees copier point none s.0.1 s.0.0 s.2
     reserve_at reserving.Over point none saw = absurd saw.2
@@ -109,17 +107,17 @@ module _ {K V : Type 0} (same : K → K → Bool) (hash : K → ℕ) (fits : (k 
   module _ (began : ℕ) (p : Reserve) (facts : SupersededReserveFacts same hash w caller setting c seen began p) (end : Reserve × Yielding (Node K V) Unit) where
     left_at : (stands : Reserving) → SupersededReserving same hash w caller setting c seen began stands → (IsRowOfReserve stands → ⊥) → HasSeen b w.memory (reserve.plan_at hash p stands) n end → IsHeld
     left_at (reserving.Makes making) point none saw =
-        let s = seen_as (reserve.made p) b w.memory (new_table_plan making) n end saw in left_first_sees w slot caller c seen setting within_setting within began making b n s.0 point s.2
+        let s = seen_as (reserve.made p) b w.memory (new_table_plan making) n end saw in left_first_sees w slot caller c seen setting Held within began making b n s.0 point s.2
     left_at (reserving.Sums table sum) point none saw =
         let s = seen_as (reserve.summed p table) b w.memory (sum_plan sum) n end saw in absurd (sum_sees_none b w.memory n sum s.0 s.2)
     left_at (reserving.Follows table need) (t, entered, left) none saw =
         let l = loads b w.memory n (Word (table.link / 2048) NEXT) end (reserve.next_read p table need) saw in
-        sees_link w slot c seen within_setting within (value_at n) l.0 (suc t)
-        (next_link same hash fits w slot caller c seen setting within_setting within map table t entered l.0 l.1) _
+        sees_link w slot c seen Held within (value_at n) l.0 (suc t)
+        (next_link same hash fits w slot caller c seen setting Held within map table t entered l.0 l.1) _
         (λ value. (reserve.copying p table (table_seen l.0 value), Goes)) b l.3.1
     left_at (reserving.Grows table making) (t, entered, left, making_facts) none saw =
         let s = seen_as (reserve.grown p table) b w.memory (new_table_plan making) n end saw in
-        new_table_sees w slot caller c seen setting within_setting within (Word (seen.table t) NEXT) (suc t) making b n s.0 making_facts s.2
+        new_table_sees w slot caller c seen setting Held within (Word (seen.table t) NEXT) (suc t) making b n s.0 making_facts s.2
     left_at (reserving.Copies copier) point none saw =
         let s = seen_as (reserve.copied p) b w.memory (copier_plan hash copier) n end saw in left_sees began copier point none s.0.1 s.0.0 s.2
     left_at _ point none saw = absurd point
@@ -139,12 +137,12 @@ module _ {K V : Type 0} (same : K → K → Bool) (hash : K → ℕ) (fits : (k 
     sweep_at : (stands : Sweeping) → SweepingFacts same hash w caller setting c seen began p stands → (IsRowOfSweep stands → ⊥) → HasSeen b w.memory (sweep.plan_at hash p stands) n end → IsHeld
     sweep_at sweeping.Reads point none saw =
         let l = loads b w.memory n (Root p.setting.root) end (sweep.root_read p) saw in
-        sees_link w slot c seen within_setting within (value_at n) l.0 c.first (root_link same hash fits w slot caller c seen setting within_setting within map l.0 (sweep_root l.0 l.1)) _
+        sees_link w slot c seen Held within (value_at n) l.0 c.first (root_link same hash fits w slot caller c seen setting Held within map l.0 (sweep_root l.0 l.1)) _
         (λ value. sweep_points.telling (sweep_points.entering p (table_seen l.0 value))) b l.3.1
     sweep_at sweeping.Follows (t, entered, root) none saw =
         let l = loads b w.memory n (at_word p.table NEXT) end (sweep.next_read p) saw in
-        sees_link w slot c seen within_setting within (value_at n) l.0 (suc t)
-        (next_link same hash fits w slot caller c seen setting within_setting within map p.table t entered l.0 l.1) _
+        sees_link w slot c seen Held within (value_at n) l.0 (suc t)
+        (next_link same hash fits w slot caller c seen setting Held within map p.table t entered l.0 l.1) _
         (λ value. sweep_points.going p (sweeping.Copies (copying_all p.setting p.table (table_seen l.0 value)))) b l.3.1
     sweep_at (sweeping.Copies copier) point none saw =
         let s = seen_as (sweep.copied p) b w.memory (copier_plan hash copier) n end saw in table_sees copier point none s.0.1 s.0.0 s.2
@@ -157,7 +155,7 @@ module _ {K V : Type 0} (same : K → K → Bool) (hash : K → ℕ) (fits : (k 
     sweep_at (sweeping.Counts removed) point none saw = absurd saw.3
     sweep_at (sweeping.Disposes dispose) (removes, t, at_place, dispose_facts) none saw =
         let s = seen_as (sweep.disposed p) b w.memory (dispose_plan dispose) n end saw in
-        dispose_sees same hash fits w slot caller c seen setting within_setting within map dispose dispose_facts b n s.0 none s.2
+        dispose_sees same hash fits w slot caller c seen setting Held within map dispose dispose_facts b n s.0 none s.2
     sweep_at sweeping.Ready point none saw = absurd saw.2
     sweep_at (sweeping.Asks word) point none saw = absurd saw.2
     sweep_at sweeping.Over point none saw = absurd saw.2

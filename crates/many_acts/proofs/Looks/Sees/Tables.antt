@@ -4,7 +4,6 @@ use Rattle.std.proofs.Common.{◌≡◌, true, inl, inr, sym, subst}
 use Rattle.run_shows.specs.Given.SeizeWordsDeclared.at.At.{At}
 use Rattle.run_shows.specs.Given.SeizeWordsDeclared.at.At.TheVariants.{Word}
 use Rattle.run_shows.specs.Given.SeizeWordsMem.{Mem, value_at}
-use Rattle.run_shows.specs.Given.SeizeLaw.{holds}
 use Rattle.run_shows.specs.Given.SeizeWorld.{World}
 use Rattle.run_shows.specs.Given.SeizeDeclared.advance.Advance.{Advance}
 use Rattle.run_shows.specs.Given.TablesNodes.{table_seen}
@@ -25,9 +24,8 @@ use Rattle.run_shows.specs.Given.RuleChart.{Chart}
 use Rattle.run_shows.specs.Given.RuleWords.{Blocks}
 use Rattle.owner_facts.specs.Given.LateLateCalls.{SupersededFirst, SupersededFirstFacts}
 use Rattle.owner_facts.specs.Given.PointsFactsTables.{MakingFacts, NewTableFacts}
-use Rattle.owner_facts.specs.Given.CallersKept.{IsWithin}
 use Rattle.many_acts.specs.Looks.Sees.{HasSeen}
-use Rattle.many_acts.proofs.Looks.Sees.Held.{table_held}
+use Rattle.many_acts.proofs.Looks.Sees.Held.{AllSeen, table_held}
 use Rattle.many_acts.proofs.Looks.Sees.Operations.{none_if, loads, exchanges, makes}
 use Rattle.many_acts.proofs.Looks.Sees.Plans.{seen_as, sees_one}
 
@@ -41,10 +39,10 @@ module _ {T : Type 0} (b : ℕ) (m n : Mem T) (c : Sum) (end : Sum × Advance �
   pub sum_sees_none : HasSeen b m (sum_plan c) n end → ⊥
   sum_sees_none = none_at c.stands
 
-module _ {K V : Type 0} (w : World (Node K V)) (slot caller : ℕ) (c : Chart K) (seen : Blocks) (setting within_setting : Setting) (within : IsWithin w slot c seen within_setting)
+module _ {K V : Type 0} (w : World (Node K V)) (slot caller : ℕ) (c : Chart K) (seen : Blocks) (setting : Setting) (Held : ℕ → Type 0) (within : AllSeen Held c seen)
     (link : At) (turn : ℕ) (p : NewTable) (b : ℕ) (n : Mem (Node K V)) (end : NewTable × Advance Table) where
   abbrev IsHeld : Type 0
-  IsHeld = holds slot b w.log ≡ true
+  IsHeld = Held b
 
   by_point : (stands : Making) → MakingFacts w caller setting c seen link turn stands → HasSeen b w.memory (new_table.plan_at p stands) n end → IsHeld
   by_point (at.Sums before reason sum) point saw =
@@ -59,8 +57,8 @@ module _ {K V : Type 0} (w : World (Node K V)) (slot caller : ℕ) (c : Chart K)
     | inr found ↦ absurd found.3.1
   ]
   by_point (at.Drops table found) (own, u, stands, made, known, is, planned) saw =
-      subst (λ (x : ℕ). holds slot x w.log ≡ true) (sym (sees_one b (found / 2048) (value_at n) (λ value. new_table.done p (table_seen found value)) saw.3))
-      (table_held w slot c seen within_setting within found u (is, made, known))
+      subst (λ (x : ℕ). Held x) (sym (sees_one b (found / 2048) (value_at n) (λ value. new_table.done p (table_seen found value)) saw.3))
+      (table_held w slot c seen Held within found u (is, made, known))
   by_point (at.Over table) point saw = absurd saw.2
   by_point (at.Refused fault) point saw = absurd saw.2
 
@@ -68,14 +66,14 @@ module _ {K V : Type 0} (w : World (Node K V)) (slot caller : ℕ) (c : Chart K)
   new_table_sees facts saw = by_point p.stands facts.point saw
 
 -- the making of a first table that came too late, in blocking mode
-module _ {K V : Type 0} (w : World (Node K V)) (slot caller : ℕ) (c : Chart K) (seen : Blocks) (setting within_setting : Setting) (within : IsWithin w slot c seen within_setting)
+module _ {K V : Type 0} (w : World (Node K V)) (slot caller : ℕ) (c : Chart K) (seen : Blocks) (setting : Setting) (Held : ℕ → Type 0) (within : AllSeen Held c seen)
     (began : ℕ) (p : NewTable) (b : ℕ) (n : Mem (Node K V)) (end : NewTable × Advance Table) where
-  by_left : (stands : Making) → SupersededFirst w caller setting c seen began stands → HasSeen b w.memory (new_table.plan_at p stands) n end → holds slot b w.log ≡ true
+  by_left : (stands : Making) → SupersededFirst w caller setting c seen began stands → HasSeen b w.memory (new_table.plan_at p stands) n end → Held b
   by_left (at.Drops table found) (own, planned, u, left, made, known, is) saw =
-      subst (λ (x : ℕ). holds slot x w.log ≡ true) (sym (sees_one b (found / 2048) (value_at n) (λ value. new_table.done p (table_seen found value)) saw.3))
-      (table_held w slot c seen within_setting within found u (is, made, known))
+      subst (λ (x : ℕ). Held x) (sym (sees_one b (found / 2048) (value_at n) (λ value. new_table.done p (table_seen found value)) saw.3))
+      (table_held w slot c seen Held within found u (is, made, known))
   by_left (at.Over table) point saw = absurd saw.2
   by_left _ point saw = absurd point
 
-  pub left_first_sees : SupersededFirstFacts w caller setting c seen began p → HasSeen b w.memory (new_table_plan p) n end → holds slot b w.log ≡ true
+  pub left_first_sees : SupersededFirstFacts w caller setting c seen began p → HasSeen b w.memory (new_table_plan p) n end → Held b
   left_first_sees facts saw = by_left p.stands facts.point saw

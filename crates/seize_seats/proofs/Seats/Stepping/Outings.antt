@@ -84,7 +84,7 @@ module _ {M : Type 1} {𝓤 : Ura M} (𝓛 : Logic 𝓤) (R : RattleType) (own :
   pledge κ q s = fsep (fobor κ q (flft α s)) (flft α (Share.left s))
 
   module _ (κ : Lft) (q : Share) where
-    -- it is on no errand, and goes on one for which this seat is lent, or none
+    -- it is on no errand, and goes on one for which these seats are lent, or none
     module _ (v : V) (home : cv.away v ≡ None) (a : Aided) (out : Share → V) (is : (r : Share) → cv.away (out r) ≡ Some record { part = r; aided = a })
         (law : (r : Share) → MayBe v (out r)) where
       abbrev pub Sent : Share → Pr
@@ -96,7 +96,7 @@ module _ {M : Type 1} {𝓤 : Ura M} (𝓛 : Logic 𝓤) (R : RattleType) (own :
           -- [the invariant; its lifetime lasts; the token; the seat]
           move ! (1 ∷ 2 ∷ []) $ shr_bor-open ! tt (tokens_halve 𝓛 α) (λ s. let l : Share = Share.left s in let r : Share = Share.right s in let u : V = out r in
           move ! (1 ∷ []) $ use1 𝓛 (‵ (flft α l) ⊛ ‵ (flft α r)) (𝓛.lfts.lft_split α s) $ split ! $
-          -- [the one half; the other; what is open; the invariant; the seat; the aide's]
+          -- [the one half; the other; what is open; the invariant; the seat; the aides']
           move ! (1 ∷ 5 ∷ []) $ fjoin ! $ move ! (1 ∷ 0 ∷ []) $
           rewrite ! 1 (λ (e : Away). ‵ (stake α z.views_name e)) (sym (is r)) refl $ move ! (4 ∷ 1 ∷ []) $ join ! $ move ! (3 ∷ 1 ∷ 0 ∷ []) $
           use3 𝓛 (later ((‵ (seat u) ⊛ ‵ (Of v)) ⊛ ‵ (flft α l))) (changed v u (law r) l) $ await ! tt $ split ! $ split ! $
@@ -113,6 +113,6 @@ module _ {M : Type 1} {𝓤 : Ura M} (𝓛 : Logic 𝓤) (R : RattleType) (own :
           use3 𝓛 (later ((‵ (seat u) ⊛ ‵ (Of w)) ⊛ ‵ (flft α l))) (changed w u law l) $ await ! tt $ split ! $ split ! $
           -- [the seat; what it had left; the one half; what is open]
           rewrite ! 1 (λ (e : Away). ‵ (stake α z.views_name e)) is refl $ move ! (1 ∷ []) $ fsplit ! $
-          -- [the other half; the aide's; the seat; the one half; what is open]
+          -- [the other half; the aides'; the seat; the one half; what is open]
           move ! (3 ∷ 0 ∷ []) $ use2 𝓛 (‵ (flft α s)) (𝓛.lfts.lft_join α s) $
           move ! (3 ∷ 0 ∷ []) $ obor_close ! tt $ drop ! $ now ! $ move ! (2 ∷ 0 ∷ []) $ done !

@@ -17,7 +17,7 @@ use Rattle.seize_seats.specs.Seats.Strips.{Strip, strip_coded, no_strip, further
 use Rattle.seize_seats.specs.Seats.Doors.{block_type, IsFurther, heap, right_to, doors}
 use Rattle.seize_seats.specs.Seats.Lines.{long}
 use Rattle.seize_seats.specs.Seats.Buckets.{IsBucket}
-use Rattle.seize_seats.specs.Seats.Errands.{Away, Aided, Nobody, By, Anyone, ViewCode, aide_stake, stake, stakes}
+use Rattle.seize_seats.specs.Seats.Errands.{Away, Aide, Aided, These, Anyone, ViewCode, aide_shares, aide_stake, stake, stakes}
 use Rattle.seize_seats.specs.Seats.Owned.{words_right, lines, bucket_right, bucket_known, ground, Pieces, shared_view, row, piece, lent_in, had_in, quarters, ledger, zeros, stride, kept, numbers, strips, Core, BaseId, core_of, everything, common, words_own, words_share}
 use Rattle.seize_seats.specs.Seats.Lendings.{Phase, Begins, Lasts, Over, in_phase, Holder, Lending, Witness, witnessed, span, told, lendings, lendable, in_hand}
 use Rattle.seize_seats.specs.Seats.Stretches.{lasting, seat_owns, seat_shares}
@@ -113,9 +113,12 @@ module _ (σ : ℕ) (Is : ℕ → Strip → Type 0) (right : Strip → Fml) (rig
 ledger_keyless : {V : Type 0} (c : V → Gv) (γ : ℕ) (d : V) (vs : List V) → Keyless (ledger c γ d vs)
 ledger_keyless c γ d vs = (quarters_keyless c γ 0 vs, entries_keyless shared_view γ (length vs) _)
 
+aides_keyless : (γ : ℕ) (xs : List Aide) → Keyless (aide_shares γ xs)
+aides_keyless γ [] = tt
+aides_keyless γ (a ∷ xs) = (entry_keyless shared_view γ a.seat _, aides_keyless γ xs)
+
 aide_keyless : (γ : ℕ) (a : Aided) → Keyless (aide_stake γ a)
-aide_keyless γ Nobody = tt
-aide_keyless γ (By a) = entry_keyless shared_view γ a.seat _
+aide_keyless γ (These xs) = aides_keyless γ xs
 aide_keyless γ Anyone = λ _. tt
 
 stake_keyless : (α : Lft) (γ : ℕ) (e : Away) → Keyless (stake α γ e)

@@ -13,7 +13,7 @@ use types.Kit.{‵, raw, ◌⊛◌, given, ◌$◌, ◌∵◌, !, qed, by, move,
 use denote.Steps.{nothing}
 use Rattle.seize_seats.specs.Seats.Seen.{fact, itself, seen}
 use Rattle.seize_seats.specs.Seats.Owned.{ledger, sitting}
-use Rattle.seize_seats.specs.Seats.Errands.{Away, ViewCode, Aided, Nobody, By, Anyone, IsAide, Lends, AreUnlent, coded_of, aide_stake, stake, stakes, AreAllBack}
+use Rattle.seize_seats.specs.Seats.Errands.{Away, ViewCode, Aide, Aided, These, Anyone, IsOneOf, IsAide, Lends, AreUnlent, coded_of, aide_shares, aide_stake, stake, stakes, AreAllBack}
 use Rattle.seize_seats.proofs.Seats.Views.Ledgers as Ledgers
 
 module _ {M : Type 1} {𝓤 : Ura M} (𝓛 : Logic 𝓤) (α : Lft) {V : Type 0} (c : ViewCode V) (γ : ℕ) where
@@ -148,17 +148,30 @@ module _ {M : Type 1} {𝓤 : Ura M} (𝓛 : Logic 𝓤) (α : Lft) {V : Type 0}
     abbrev Whole : Fml
     Whole = Sn full_share id v
 
-    aside : (a : Aided) → ⟦ Whole ⟧ ∗ ⟦ aide_stake γ a ⟧ ⊢ guard 𝓤 (IsAide a id → ⊥) (⟦ Whole ⟧ ∗ ⟦ aide_stake γ a ⟧)
-    aside Nobody = qed 𝓛 (‵ Whole ∷ ‵ ftrue ∷ []) ∵ check ! (λ none. none) $ done !
-    aside (By a) = by_seat (cases_eq a.seat id)
-      where
-        Of_a : Fml
-        Of_a = aide_stake γ (By a)
+    neither : (a : Aide) (xs : List Aide) → a.seat ≢ id → (IsOneOf xs id → ⊥) → IsOneOf (a ∷ xs) id → ⊥
+    neither a xs ne none (inl is) = ne is
+    neither a xs ne none (inr is) = none is
 
-        by_seat : (a.seat ≡ id) ⊎ (a.seat ≢ id) → ⟦ Whole ⟧ ∗ ⟦ Of_a ⟧ ⊢ guard 𝓤 (a.seat ≡ id → ⊥) (⟦ Whole ⟧ ∗ ⟦ Of_a ⟧)
-        by_seat (inl same) = qed 𝓛 (‵ Whole ∷ ‵ Of_a ∷ []) ∵ rewrite ! 1 (λ (n : ℕ). ‵ (seen (λ (g : Gv). g) γ a.part n a.view)) same refl $
-            use2 𝓛 (given ⊥ (‵ Whole ⊛ ‵ (seen (λ (g : Gv). g) γ a.part id a.view))) (Ledgers.alone 𝓛 itself γ id a.part (c.code v) a.view) $ learn ! (λ no. absurd no)
-        by_seat (inr ne) = qed 𝓛 (‵ Whole ∷ ‵ Of_a ∷ []) ∵ check ! ne $ done !
+    abbrev Aside : List Aide → Type 1
+    Aside xs = ⟦ Whole ⟧ ∗ ⟦ aide_shares γ xs ⟧ ⊢ guard 𝓤 (IsOneOf xs id → ⊥) (⟦ Whole ⟧ ∗ ⟦ aide_shares γ xs ⟧)
+
+    one_aside : (a : Aide) (xs : List Aide) → Aside xs → (a.seat ≡ id) ⊎ (a.seat ≢ id) → Aside (a ∷ xs)
+    one_aside a xs rest (inl same) = let Of_a : ℕ → Fml = λ n. seen (λ (g : Gv). g) γ a.part n a.view in
+        qed 𝓛 (‵ Whole ∷ (‵ (Of_a a.seat) ⊛ ‵ (aide_shares γ xs)) ∷ []) ∵ move ! (1 ∷ []) $ split ! $ move ! (2 ∷ 0 ∷ []) $
+        rewrite ! 1 (λ (n : ℕ). ‵ (Of_a n)) same refl $
+        use2 𝓛 (given ⊥ (‵ Whole ⊛ ‵ (Of_a id))) (Ledgers.alone 𝓛 itself γ id a.part (c.code v) a.view) $ learn ! (λ no. absurd no)
+    one_aside a xs rest (inr ne) =
+        qed 𝓛 (‵ Whole ∷ (‵ (seen (λ (g : Gv). g) γ a.part a.seat a.view) ⊛ ‵ (aide_shares γ xs)) ∷ []) ∵ move ! (1 ∷ []) $ split ! $ move ! (2 ∷ 1 ∷ []) $
+        use2 𝓛 (given (IsOneOf xs id → ⊥) (‵ Whole ⊛ ‵ (aide_shares γ xs))) rest $ learn ! (λ none. check ! (neither a xs ne none) $ split ! $
+        -- [the whole; the others' shares; the one's]
+        frame ! $ move ! (1 ∷ 0 ∷ []) $ done !)
+
+    all_aside : (xs : List Aide) → Aside xs
+    all_aside [] = qed 𝓛 (‵ Whole ∷ ‵ ftrue ∷ []) ∵ check ! (λ none. none) $ done !
+    all_aside (a ∷ xs) = one_aside a xs (all_aside xs) (cases_eq a.seat id)
+
+    aside : (a : Aided) → ⟦ Whole ⟧ ∗ ⟦ aide_stake γ a ⟧ ⊢ guard 𝓤 (IsAide a id → ⊥) (⟦ Whole ⟧ ∗ ⟦ aide_stake γ a ⟧)
+    aside (These xs) = all_aside xs
     aside Anyone = qed 𝓛 (‵ Whole ∷ ‵ (fact ⊥) ∷ []) ∵ move ! (1 ∷ []) $ fpick ! (λ none. absurd none)
 
     one_unlent : (e : Away) → ⟦ Whole ⟧ ∗ ⟦ stake α γ e ⟧ ⊢ guard 𝓤 (Lends e id → ⊥) (⟦ Whole ⟧ ∗ ⟦ stake α γ e ⟧)

@@ -1,14 +1,14 @@
--- `errand` lends half of what it has of the borrow of the words on, leaves the other half in the invariant, and takes it back.
-use Rattle.std.specs.Prelude.{◌≢◌, Some, None}
-use Rattle.std.proofs.Common.{◌≡◌, ℕ, List, [], ◌∷◌, ◌++◌, sym, refl, ap, subst, inl, inr}
-use mir.Syntax.{dcons, dnil, a_type, named}
+-- `errand` lends half of what it has of the borrow of the words on, and by the other half sends the seat on its way, for which nobody is lent.
+use Rattle.std.specs.Prelude.{◌≢◌, None}
+use Rattle.std.proofs.Common.{◌≡◌, ℕ, List, [], ◌∷◌, ◌++◌, sym, refl, ap, subst}
+use mir.Syntax.{dcons, dnil, a_type}
 use mir.MapTy.{inst_fn}
 use mir.Val.{Val, vptr}
 use prog.Wp.{WpFn}
 use base.Share
-use base.Logic.{SProp, ent, emp, id⊢, apply∗}
-use base.Fml.{Lft, Share, Fml, ftrue, fsep, flft, fdead, fhide}
-use types.Kit.{‵, raw, ◌⊛◌, later, ◌$◌, ◌∵◌, !, qed, by, move, keep, drop, split, split3, join, fsplit, fsplit3, fjoin, fjoin3, group, suffices, use0, use1, use2, use3, await, rewrite, feq_i, some as items, pick}
+use base.Logic.{SProp, ent, emp, id⊢}
+use base.Fml.{Lft, Share, Fml, ftrue, fsep, flft, fhide}
+use types.Kit.{‵, raw, ◌⊛◌, later, ◌$◌, ◌∵◌, !, qed, by, move, keep, drop, split, split3, join, fsplit, fsplit3, fjoin, fjoin3, group, suffices, use0, use1, use2, await, rewrite, feq_i, some as items, pick}
 use types.Run.{of_opd, addr, stop, no_more, and_then, returns, enter}
 use types.ByLocal.{alloc_all, pass_all, free_all, look_at, get, through, sets, lands_as, env}
 use contract.BorrowLft.{◌⊑◌, ⊑_trans, meet_⊑_right}
@@ -19,15 +19,13 @@ use denote.Exit.{yes, no}
 use denote.RattleType.{RattleType, owns}
 use denote.Signature.{types_at, plain}
 use denote.RawPtr.{Ptr}
-use denote.Steps.{nothing, heard, only, peeks, opens, closes}
+use denote.Steps.{nothing, heard, only, peeks}
 use denote.Opens.{unhide, shr_dup}
 use denote.Memory.{hidden_shr}
 use denote.Laws.{Is, shows}
-use denote.Lend.{LentAgain, lends_again, comes_back}
 use denote.Param.{param, bounded, layout}
 use denote.Param.Laws.{Laws, param_laws}
 use denote.Builtin.{RefOf}
-use denote.Ref.{MutRef}
 use denote.SharingLaws.{contraction}
 use denote.Struct.Tuple.{Tuple}
 use denote.Struct.Lending.{lent_out}
@@ -42,18 +40,13 @@ use Rattle.std.proofs.raw_atomic.Walks.{proved_at, leaves}
 use Rattle.std.proofs.raw_atomic.Calls.{fm}
 use Rattle.seize_seats.specs.contracts.kept.Kept as kept_of
 use Rattle.seize_seats.specs.Plots.Pieces.{kept_words}
-use Rattle.seize_seats.specs.Seats.Errands.{Away, Nobody, alone_on, coded_of}
+use Rattle.seize_seats.specs.Seats.Errands.{Aided, These}
 use Rattle.seize_seats.specs.Seats.Owned.{BaseId, words_share}
-use Rattle.seize_seats.specs.Seats.Stretches.{seat_owns}
-use Rattle.seize_seats.proofs.Seats.Views.Stretches.{ends, begins}
-use Rattle.seize_seats.proofs.Seats.Stepping.Moves.{seat as seat_of}
-use Rattle.seize_seats.proofs.Seats.Stepping.Outings.{goes, returns as comes_home, pledge}
-use Rattle.seize_seats.proofs.Seats.Views.Inside.{Ends, begins_within}
 use Rattle.seize_seats.proofs.Seats.Views.Shown.{words_laws}
-use Rattle.seize_atoms.specs.Visiting.{Seen, HoldsSince, keeps_here, seat_coded}
+use Rattle.seize_atoms.specs.Visiting.{HoldsSince, seat_coded}
 use Rattle.seize_atoms.specs.contracts.words.StripWords as words
 use Rattle.seize_atoms.specs.contracts.seat.Seat as seat
-use Rattle.seize_atoms.proofs.Allowed.{errand_allowed}
+use Rattle.seize_atoms.proofs.Sending.{trip, gone, back, under_way, departs, at_home, arrives}
 use Rattle.seize_atoms.proofs.Fields.{Data}
 use Rattle.seize_atoms.proofs.words.StripWords.TheLaws.{the_row_laws as words_row_laws}
 use Rattle.seize_atoms.specs.contracts.words.StripWords.sent as sent
@@ -80,10 +73,8 @@ errand_spec 𝓤 𝓛 𝓜 𝓡 wired X P U F N Y LX LP LU LF LN LY g d g' d' me
     let κs = y.0.0 in let qs = y.0.1 in let bounds = y.0.2 in let a = y.0.3 in let vss = y.0.4 in let Post : Val → SProp 𝓤 = (walk_of 𝓛 En hs c).post y in
     let b : ℕ = a.0.ref_ptr.0 in let o : ℕ = a.0.ref_ptr.1 in let b' : ℕ = a.1.0.ref_ptr.0 in let o' : ℕ = a.1.0.ref_ptr.1 in let γ : ℕ = a.1.0.ghost_name in
     let κ : Lft = κs.0 in let κ₁ : Lft = κs.1.0 in let ql : Share = Share.left qs.0 in let qr : Share = Share.right qs.0 in
-    let tl : Share = Share.left qs.1.0 in let tr : Share = Share.right qs.1.0 in
     let t : Row.Denot = a.0.now in let p : Ptr = t.words in let z : BaseId = t.id in let h : Sr.Denot = a.1.0.now in let e : N.Denot = a.1.1.0 in
-    let id : ℕ = h.id in let v : Seen U.Denot = ((h.view, h.visit), h.away) in let cv = seat_coded R₂.coded in let rule = g.holds t.fixed in
-    let holds = HoldsSince g.rests g.leans t.start rule g.keeps in let keeps = keeps_here g.keeps in
+    let id : ℕ = h.id in let cv = seat_coded R₂.coded in let holds = HoldsSince g.rests g.leans t.start (g.holds t.fixed) g.keeps in
     let rest : Fml = fsep (flft κs.1.1.1.1.0 qs.1.1.1.1.0) (fsep (flft κs.1.1.1.1.1.0 qs.1.1.1.1.1.0)
     (fsep (flft κs.1.1.1.1.1.1.0 qs.1.1.1.1.1.1.0) (fsep (flft κs.1.1.1.1.1.1.1.0 qs.1.1.1.1.1.1.1.0) ftrue))) in
     let others : Fml = fsep (flft κs.1.1.0 qs.1.1.0) (fsep (flft κs.1.1.1.0 qs.1.1.1.0) rest) in
@@ -91,8 +82,7 @@ errand_spec 𝓤 𝓛 𝓜 𝓡 wired X P U F N Y LX LP LU LF LN LY g d g' d' me
     × ((r : Y.Denot) (w : U.Denot) → g'.did e h.view r w → g.rests w) in
     let got = one (layout N) vss.1.1.0 (LN₀.typed e vss.1.1.0 are.1.1.0) in let ve : Val = got.0 in
     let us : List Val = vptr b o ∷ vptr b' o' ∷ ve ∷ [] in let Run : List Val → SProp 𝓤 = λ ws. WpFn 𝓤 H 𝓣.C 𝓣.Λ fn ws Post in
-    let Ws : Fml = words_share K₀ kept_words cv holds p z κ in let Seat : Seen U.Denot → Fml = seat_of 𝓛 K₀ kept_words cv holds keeps p z id in
-    let Owns : Seen U.Denot → ℕ × ℕ → Fml = λ w st. seat_owns cv.code z.views_name id w st.0 st.1 in
+    let Ws : Fml = words_share K₀ kept_words cv holds p z κ in let lent : Aided = These [] in
     let I₂ : Type 0 = κs.1.1.0 ⊑ X.lives in let I₃ : Type 0 = κs.1.1.1.0 ⊑ P.lives in let I₄ : Type 0 = κs.1.1.1.1.0 ⊑ U.lives in
     let I₅ : Type 0 = κs.1.1.1.1.1.0 ⊑ F.lives in let I₆ : Type 0 = κs.1.1.1.1.1.1.0 ⊑ N.lives in let I₇ : Type 0 = κs.1.1.1.1.1.1.1.0 ⊑ Y.lives in
     qed 𝓛 (((‵ (flft κs.0 qs.0) ⊛ ‵ (flft κ₁ qs.1.0) ⊛ ‵ others) ⊛ ‵ (owns (types_at En.signature.params κs) a vss)) ∷ raw (fact 𝓤 I₂) ∷ raw (fact 𝓤 I₃) ∷
@@ -109,35 +99,21 @@ errand_spec 𝓤 𝓛 𝓜 𝓡 wired X P U F N Y LX LP LU LF LN LY g d g' d' me
     []))).coded) (words.the_heap R₀ R₁ R₂ R₃ g) (words.the_lent R₀ R₁ R₂ R₃ g) κ t b o) $
     split ! $ drop ! $ unhide ! $ use1 𝓛 (‵ Ws ⊛ ‵ Ws) (contraction 𝓛 (words_share K₀ kept_words cv holds p z) (words_laws K₀ kept_words cv holds p z) κ) $ split ! $
     -- [what the words share, twice; self; its token; the seat, by two; its token; the errand; the others]
-    move ! (3 ∷ []) $ use1 𝓛 (‵ (flft κ ql) ⊛ ‵ (flft κ qr)) (𝓛.lfts.lft_split κ qs.0) $ split ! $ move ! (5 ∷ 6 ∷ 7 ∷ []) $
-    opens ! tt Sr b' o' (λ ts. move ! (1 ∷ []) $ fsplit ! $
-    rewrite ! 1 (λ (u : ℕ). ‵ (seat_owns cv.code u id v h.stretch h.mark)) asked.0 refl $ move ! (1 ∷ []) $
-    use1 𝓛 (later (‵ (Seat v))) (ends 𝓛 (coded_of cv) z.views_name id v h.stretch h.mark) $ await ! tt $
-    -- [the seat; its fields; four of it; self's token, by two; what the words share, twice; self; the errand; the others]
-    let out : Share → Seen U.Denot = λ r. ((h.view, h.visit), Some (alone_on r)) in
-    nothing ! $ move ! (9 ∷ 7 ∷ 1 ∷ 0 ∷ []) $ group ! 4 $ use1 𝓛 (later (items (λ (s : Share). ‵ (Seat (out (Share.right s))) ⊛ ‵ (pledge 𝓛 K₀ kept_words cv holds keeps p z id κ ql s))))
-    (goes 𝓛 K₀ kept_words cv holds keeps p z id κ ql v asked.1 Nobody out (λ r. refl) (λ r. errand_allowed g.rests g.leans g.upright rule g.keeps t.start id h.view h.visit h.away (Some (alone_on r)) (λ none. absurd (cc none)) (inl asked.1))) $
-    await ! tt $ pick ! (λ s. split ! $ let r₀ : Share = Share.right s in let v₁ : Seen U.Denot = out r₀ in
-    let Pl : Fml = pledge 𝓛 K₀ kept_words cv holds keeps p z id κ ql s in
-    use1 𝓛 (later (items (λ (st : ℕ × ℕ). ‵ (Owns v₁ st)))) (begins 𝓛 (coded_of cv) z.views_name id v₁) $ await ! tt $ pick ! (λ st.
-    let h₁ : Sr.Denot = record { marker = h.marker; base = z.views_name; id = id; view = h.view; visit = h.visit; away = Some (alone_on r₀); stretch = st.0; mark = st.1 } in
-    -- [the seat; the pledge; the fields; four; self's token; what the words share; self; the errand; the others]
-    move ! (2 ∷ 0 ∷ []) $ fjoin ! $ move ! (2 ∷ 0 ∷ 3 ∷ 4 ∷ 5 ∷ []) $ closes ! tt Sr h₁ ts b' o' $
-    feq_i ! (List Val) (vptr b' o' ∷ []) (vptr b' o' ∷ []) refl $ fjoin3 ! $
-    -- [the seat; its token; the pledge; self's token; what the words share; self; the errand; the others]
-    move ! (1 ∷ []) $ use1 𝓛 (‵ (flft κ₁ tl) ⊛ ‵ (flft κ₁ tr)) (𝓛.lfts.lft_split κ₁ qs.1.0) $ split ! $ move ! (1 ∷ []) $
-    use1 𝓛 (later (items (λ (u : ℕ × Share). ‵ (flft (u.0 ∷ κ₁) u.1) ⊛ raw (Ends 𝓛 κ₁ tr u.0 u.1)))) (begins_within 𝓛 κ₁ tr) $ await ! tt $ pick ! (λ u. split ! $
-    let β : Lft = u.0 ∷ κ₁ in let SeatRef : Lft → ℕ → Sr.Denot → Fml = λ ν δ x. (MutRef (named 1) ν Sr).own_val (record { ref_ptr = (b', o'); ghost_name = δ; now = x }) (vptr b' o' ∷ []) in
-    -- [the new token; how it ends; half of the seat's; the seat; the pledge; self's token; what the words share; self; the errand; the others]
-    move ! (3 ∷ 2 ∷ []) $ use2 𝓛 (later (items (λ (δ : ℕ). ‵ (SeatRef β δ h₁) ⊛ ‵ (LentAgain Sr κ₁ β tl γ b' o' δ h₁))))
-    (lends_again 𝓛 Sr (named 1) κ₁ β tl γ b' o' (named 1) h₁) $ await ! tt $ pick ! (λ δ. split ! $
-    let κs' : Lfts 8 = (κ, (β, κs.1.1)) in let qs' : Shares 8 = (qr, (u.1, qs.1.1)) in let a' : Args (sent.signature X P U F N Y g d g' d') κs' = (a.0, (record { ref_ptr = (b', o'); ghost_name = δ; now = h₁ }, (e, tt))) in
-    let in₂ = ⊑_trans β κ₁ κs.1.1.0 (meet_⊑_right (u.0 ∷ []) κ₁) bounds.1.1.0 in let in₃ = ⊑_trans β κ₁ κs.1.1.1.0 (meet_⊑_right (u.0 ∷ []) κ₁) bounds.1.1.1.0 in
+    move ! (3 ∷ []) $ use1 𝓛 (‵ (flft κ ql) ⊛ ‵ (flft κ qr)) (𝓛.lfts.lft_split κ qs.0) $ split ! $
+    nothing ! $ move ! (3 ∷ 1 ∷ 6 ∷ 7 ∷ 8 ∷ 0 ∷ []) $ group ! 6 $
+    use1 𝓛 (under_way 𝓛 R₀ R₁ R₂ R₃ g t κ ql κ₁ qs.1.0 γ b' o' lent h)
+    (departs 𝓛 R₀ R₁ R₂ R₃ g t κ ql κ₁ qs.1.0 γ b' o' lent h asked.0 asked.1) $ await ! tt $ pick ! (λ x. split3 ! $ move ! (2 ∷ []) $ split3 ! $
+    let β : Lft = trip 𝓛 R₀ R₁ R₂ R₃ g t κ ql κ₁ qs.1.0 γ b' o' lent x in let h₁ : Sr.Denot = gone 𝓛 R₀ R₁ R₂ R₃ g t κ ql κ₁ qs.1.0 γ b' o' lent h x in
+    let δ : ℕ = x.name in
+    let κs' : Lfts 8 = (κ, (β, κs.1.1)) in let qs' : Shares 8 = (qr, (x.token, qs.1.1)) in
+    let a' : Args (sent.signature X P U F N Y g d g' d') κs' = (a.0, (record { ref_ptr = (b', o'); ghost_name = δ; now = h₁ }, (e, tt))) in
+    let in₂ = ⊑_trans β κ₁ κs.1.1.0 (meet_⊑_right (x.atom ∷ []) κ₁) bounds.1.1.0 in let in₃ = ⊑_trans β κ₁ κs.1.1.1.0 (meet_⊑_right (x.atom ∷ []) κ₁) bounds.1.1.1.0 in
     let Se : Ended = sent.ended X P U F N Y g d g' d' in
     let G = triple_of 𝓛 (sent.signature X P U F N Y g d g' d') (sent.spec X P U F N Y g d g' d' 𝓛 𝓜.mem 𝓡.returns) in
     let y' : G.Ghost = ((κs', qs', (bounds.0, (bounds.1.0, (in₂, (in₃, tt)))), a', (vptr b o ∷ [], (vptr b' o' ∷ [], (ve ∷ [], tt)))), tt) in
     let Asked' : Type 0 = (h₁.away ≢ None) × g'.asks e z.views_name h.view in
-    -- [the loan; what its lender has; the new token; how it ends; the pledge; self's token; what the words share; self; the errand; the others]
+    -- [the new token; how it ends; the pledge; the loan; what its lender has; self's token; what the words share; self; the errand; the others]
+    move ! (3 ∷ 4 ∷ 0 ∷ 1 ∷ 2 ∷ []) $
     nothing ! $ move ! (9 ∷ 0 ∷ []) $ fjoin ! $ move ! (1 ∷ 0 ∷ []) $ fjoin ! $ move ! (7 ∷ []) $ feq_i ! (List Val) (vptr b o ∷ []) (vptr b o ∷ []) refl $ fjoin ! $ fjoin ! $
     move ! (2 ∷ 7 ∷ []) $ join ! $ move ! (5 ∷ 0 ∷ []) $ join ! $ join ! $
     use0 𝓛 (raw (fact 𝓤 Asked')) (fact_i 𝓤 Asked' (emp 𝓤) ((λ none. absurd (cc none)), subst (λ (k : ℕ). g'.asks e k h.view) asked.0 asked.2)) $
@@ -149,38 +125,27 @@ errand_spec 𝓤 𝓛 𝓜 𝓡 wired X P U F N Y LX LP LU LF LN LY g d g' d' me
     sets ! (addr ! (through ! refl (stop !))) refl (tt, tt) $ sets ! (of_opd ! (get ! refl)) refl got.2 $
     calls_at ! (fm 𝓛 𝓜 𝓡) G (sent_is.met 𝓤 𝓛 𝓜 𝓡 (code.calls-seize_atoms::words::StripWords::sent 𝓡.env wired) X P U F N Y LX LP LU LF LN LY g d g' d' met met') y'
     (and_then ! (get ! refl) (and_then ! (get ! refl) (and_then ! (get ! refl) (no_more !)))) (λ w.
-    let Did : Y.Denot → Sr.Denot → Type 0 = λ r x. (x.base ≡ h₁.base) × (x.id ≡ h₁.id) × (x.away ≡ h₁.away) × g'.did e h₁.view r x.view in
-    use1 𝓛 (later (items (λ (r : Y.Denot). ((‵ (flft κ qr) ⊛ ‵ (flft β u.1) ⊛ ‵ others) ⊛ ‵ (R₅.own_val r (w ∷ [])))
+    let Did : Y.Denot → Sr.Denot → Type 0 = λ r u. (u.base ≡ h₁.base) × (u.id ≡ h₁.id) × (u.away ≡ h₁.away) × g'.did e h₁.view r u.view in
+    use1 𝓛 (later (items (λ (r : Y.Denot). ((‵ (flft κ qr) ⊛ ‵ (flft β x.token) ⊛ ‵ others) ⊛ ‵ (R₅.own_val r (w ∷ [])))
     ⊛ items (λ (ws : Lasts Se κs' a'). ‵ (lasts Se κs' a' ws) ⊛ raw (fact 𝓤 (Did r ws.1.0)))))) (id⊢ 𝓤 (G.post y' w)) $
     await ! tt $ pick ! (λ r. split ! $ split ! $ move ! (2 ∷ []) $ pick ! (λ ws. let h₂ : Sr.Denot = ws.1.0 in split ! $ move ! (1 ∷ []) $ heard ! (Did r h₂) (λ did.
     -- [what is left; the tokens; the answer; what the lender has; how the new token ends; the pledge; what the words share]
-    fsplit ! $ drop ! $ fsplit ! $ fsplit ! $ move ! (3 ∷ []) $ split3 ! $ move ! (1 ∷ 8 ∷ []) $
-    use2 𝓛 (later (‵ (fdead β) ⊛ ‵ (flft κ₁ tr))) (apply∗ 𝓤 (𝓛.A.lft β u.1) _) $ await ! tt $ split ! $
-    -- [dead; half of the seat's token; self's; the others; the last value; its borrow; nothing; the answer; what the lender has; the pledge; what the words share]
-    move ! (0 ∷ 8 ∷ 4 ∷ []) $ use3 𝓛 (later (‵ (SeatRef κ₁ γ h₂) ⊛ ‵ (flft κ₁ tl))) (comes_back 𝓛 Sr (named 1) κ₁ β tl γ b' o' δ h₁ h₂) $ await ! tt $ split ! $
-    move ! (1 ∷ 2 ∷ []) $ use2 𝓛 (‵ (flft κ₁ qs.1.0)) (𝓛.lfts.lft_join κ₁ qs.1.0) $
-    -- [the seat's token; the seat; self's token; the others; the borrow; nothing; the answer; the pledge; what the words share]
-    move ! (6 ∷ []) $ peeks ! R₅ (Is R₅) (shows 𝓛 R₅) r (w ∷ []) (λ is. let ret = one (layout Y) (w ∷ []) (LY₀.typed r (w ∷ []) is) in
+    fsplit ! $ drop ! $ fsplit ! $ fsplit ! $ move ! (3 ∷ []) $ split3 ! $
+    -- [self's token; the new one; the others; the last value; its borrow; nothing; the answer; what the lender has; how the new token ends; the pledge; ..]
+    move ! (10 ∷ 9 ∷ 1 ∷ 8 ∷ 7 ∷ 3 ∷ []) $ group ! 6 $
+    use1 𝓛 (at_home 𝓛 R₀ R₁ R₂ R₃ g t κ ql κ₁ qs.1.0 γ b' o' lent h x h₂ did.0 did.1 did.2 (asked.3 r h₂.view did.3))
+    (arrives 𝓛 R₀ R₁ R₂ R₃ g t κ ql κ₁ qs.1.0 γ b' o' lent h x h₂ did.0 did.1 did.2 (asked.3 r h₂.view did.3)) $ await ! tt $ pick ! (λ su. split3 ! $
+    move ! (2 ∷ []) $ split3 ! $ let h₃ : Sr.Denot = back 𝓛 R₀ R₁ R₂ R₃ g t κ ql κ₁ qs.1.0 γ b' o' lent h₂ id su in
+    -- [the seat's token; half of self's; nothing; the seat, by two; the other half; the others; the borrow; nothing; the answer]
+    move ! (2 ∷ []) $ drop ! $ move ! (1 ∷ 4 ∷ []) $ use2 𝓛 (‵ (flft κ qs.0)) (𝓛.lfts.lft_join κ qs.0) $
+    move ! (1 ∷ 4 ∷ []) $ join ! $ move ! (1 ∷ 0 ∷ []) $ join ! $
+    -- [the tokens; the seat, by two; the borrow; nothing; the answer]
+    move ! (5 ∷ []) $ peeks ! R₅ (Is R₅) (shows 𝓛 R₅) r (w ∷ []) (λ is. let ret = one (layout Y) (w ∷ []) (LY₀.typed r (w ∷ []) is) in
     rewrite ! 0 (λ (ws : List Val). ‵ (R₅.own_val r ws)) ret.1 refl $ lands_as ! (ap only ret.1) refl ret.2 $
-    move ! (2 ∷ []) $ fsplit3 ! $ move ! (1 ∷ 2 ∷ 4 ∷ []) $ opens ! tt Sr b' o' (λ ts'. move ! (1 ∷ []) $ fsplit ! $
-    rewrite ! 1 (λ (k : ℕ × ℕ × Away). ‵ (seat_owns cv.code k.0 k.1 ((h₂.view, h₂.visit), k.2) h₂.stretch h₂.mark)) (λ i. (did.0 i, did.1 i, did.2 i)) refl $
-    let v₂ : Seen U.Denot = ((h₂.view, h₂.visit), Some (alone_on r₀)) in let v₃ : Seen U.Denot = ((h₂.view, h₂.visit), None) in
-    move ! (1 ∷ []) $ use1 𝓛 (later (‵ (Seat v₂))) (ends 𝓛 (coded_of cv) z.views_name id v₂ h₂.stretch h₂.mark) $ await ! tt $
-    -- [the seat; its fields; four; its address; the answer; self's token; the others; the borrow; nothing; the pledge; what the words share]
-    move ! (13 ∷ 12 ∷ 0 ∷ []) $ use3 𝓛 (later (‵ (Seat v₃) ⊛ ‵ (flft κ ql) ⊛ ‵ ftrue))
-    (comes_home 𝓛 K₀ kept_words cv holds keeps p z id κ ql s Nobody v₂ v₃ refl refl
-    (errand_allowed g.rests g.leans g.upright rule g.keeps t.start id h₂.view h₂.visit (Some (alone_on r₀)) None (λ _. asked.3 r h₂.view did.3) (inr refl))) $ await ! tt $ split3 ! $ move ! (2 ∷ []) $ drop ! $
-    -- [the seat; half of self's token; the fields; four; the address; the answer; the other half; the others; ..]
-    move ! (1 ∷ 9 ∷ []) $ use2 𝓛 (‵ (flft κ qs.0)) (𝓛.lfts.lft_join κ qs.0) $ move ! (1 ∷ []) $
-    use1 𝓛 (later (items (λ (st : ℕ × ℕ). ‵ (Owns v₃ st)))) (begins 𝓛 (coded_of cv) z.views_name id v₃) $ await ! tt $ pick ! (λ su.
-    let h₃ : Sr.Denot = record { marker = h₂.marker; base = z.views_name; id = id; view = h₂.view; visit = h₂.visit; away = None; stretch = su.0; mark = su.1 } in
-    -- [the seat; self's token; the fields; four; the address; the answer; the others; ..]
-    move ! (2 ∷ 0 ∷ []) $ fjoin ! $ move ! (2 ∷ 0 ∷ 3 ∷ 4 ∷ 5 ∷ []) $ closes ! tt Sr h₃ ts' b' o' $
-    feq_i ! (List Val) vss.1.0 (vptr b' o' ∷ []) are.1.0.0 $ fjoin3 ! $
-    -- [the seat; its token; self's; the address; the answer; the others; ..]
+    move ! (2 ∷ 3 ∷ []) $ feq_i ! (List Val) vss.1.0 (vptr b' o' ∷ []) are.1.0.0 $ fjoin3 ! $
+    -- [the seat; the answer; the tokens; ..]
     nothing ! $ nothing ! $ fjoin ! $ move ! (1 ∷ 0 ∷ []) $ fjoin ! $ nothing ! $ fjoin ! $
-    move ! (1 ∷ 5 ∷ []) $ join ! $ move ! (2 ∷ 0 ∷ []) $ join ! $
     let Told : Type 0 = (z.views_name ≡ h.base) × (id ≡ id) × (h₃.away ≡ None) × g'.did e h.view r h₂.view in
     use0 𝓛 (raw (fact 𝓤 Told)) (fact_i 𝓤 Told (emp 𝓤) (sym asked.0, refl, refl, did.3)) $
-    returns ! (look_at ! 0 refl) $ free_all ! refl $ keep ! (1 ∷ 2 ∷ 4 ∷ 0 ∷ []) $
-    by ! (leaves 𝓛 En hs c y ret.0 r (tt, (h₃, (tt, tt))) (tt, (tt, (tt, tt)))))))))))))))))))))))))
+    returns ! (look_at ! 0 refl) $ free_all ! refl $ keep ! (3 ∷ 1 ∷ 2 ∷ 0 ∷ []) $
+    by ! (leaves 𝓛 En hs c y ret.0 r (tt, (h₃, (tt, tt))) (tt, (tt, (tt, tt))))))))))))))))))))

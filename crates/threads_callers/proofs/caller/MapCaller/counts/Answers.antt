@@ -8,4 +8,4 @@ errand-requires-clause-home g c = none_away c.args.self.now.seat.away c.args.sel
 pub errand-requires-clause-ends : goal.errand-requires-clause-ends
 errand-requires-clause-ends g c =
     λ answer w did.
-    rests_counted g.K.PartialEq.eq g.S.Hashes.hash answer c.args.self.now.seat.view w c.requires.may.may.slot c.args.self.now.lone c.requires.may.may.inside did
+    rests_counted g.K.PartialEq.eq g.S.Hashes.hash answer c.args.self.now.seat.view w c.requires.may.may.slot c.args.self.now.lone c.args.self.now.good c.requires.may.may.inside did

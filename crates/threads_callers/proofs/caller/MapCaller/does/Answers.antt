@@ -9,7 +9,7 @@ errand-ran-requires-clause-home g c = none_away c.args.self.now.seat.away c.args
 pub errand-ran-requires-clause-ends : goal.errand-ran-requires-clause-ends
 errand-ran-requires-clause-ends g c =
     λ answer w did.
-    rests_called g.K.PartialEq.eq g.S.Hashes.hash (wanted_of c.args.machine) answer.told answer.unstored c.args.self.now.seat.view w c.requires.may.may.slot c.args.self.now.lone c.requires.may.may.inside did.0
+    rests_called g.K.PartialEq.eq g.S.Hashes.hash (wanted_of c.args.machine) answer.told answer.unstored c.args.self.now.seat.view w c.requires.may.may.slot c.args.self.now.lone c.args.self.now.good c.requires.may.may.inside did.0
 
 pub returns-clause-called : goal.returns-clause-called
 returns-clause-called g c = c.errand-ran.ensures.did.0

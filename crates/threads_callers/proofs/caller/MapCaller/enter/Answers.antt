@@ -11,13 +11,13 @@ pub errand-requires-clause-home : goal.errand-requires-clause-home
 errand-requires-clause-home g c = none_away c.args.self.now.seat.away c.args.self.now.home
 
 pub errand-requires-clause-asks : goal.errand-requires-clause-asks
-errand-requires-clause-asks g c = (c.requires.sized, known_free c.args.self.now.seat.view (Outside c.args.slot) c.args.self.now.lone c.requires.outside c.requires.free)
+errand-requires-clause-asks g c = (c.requires.sized, known_free c.args.self.now.seat.view (Outside c.args.slot) c.args.self.now.lone c.args.self.now.good c.requires.outside c.requires.free)
 
 pub errand-requires-clause-ends : goal.errand-requires-clause-ends
 errand-requires-clause-ends g c = λ answer w did. at_rest (notes_of w).knows (Inside c.args.slot Nothing) did.0.0 tt
 
 pub returns-clause-inside : goal.returns-clause-inside
-returns-clause-inside g c = (knows_free c.errand.new.seat.view (Inside c.args.slot Nothing) tt c.errand.ensures.did.0.0).2
+returns-clause-inside g c = (knows_free c.errand.new.seat.view (Inside c.args.slot Nothing) tt c.errand.ensures.did.0.0).2.0
 
 pub returns-clause-free : goal.returns-clause-free
 returns-clause-free g c = (knows_free c.errand.new.seat.view (Inside c.args.slot Nothing) tt c.errand.ensures.did.0.0).1

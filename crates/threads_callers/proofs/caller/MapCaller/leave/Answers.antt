@@ -13,13 +13,13 @@ errand-requires-clause-home g c = none_away c.args.self.now.seat.away c.args.sel
 
 pub errand-requires-clause-asks : goal.errand-requires-clause-asks
 errand-requires-clause-asks g c =
-    (c.requires.sized, (Nothing, tt, known_free c.args.self.now.seat.view (Inside c.args.slot Nothing) c.args.self.now.lone c.requires.inside c.requires.free), refl)
+    (c.requires.sized, (Nothing, tt, known_free c.args.self.now.seat.view (Inside c.args.slot Nothing) c.args.self.now.lone c.args.self.now.good c.requires.inside c.requires.free), refl)
 
 pub errand-requires-clause-ends : goal.errand-requires-clause-ends
 errand-requires-clause-ends g c = λ answer w did. at_rest (notes_of w).knows (Outside c.args.slot) did.0 tt
 
 pub returns-clause-outside : goal.returns-clause-outside
-returns-clause-outside g c = (knows_free c.errand.new.seat.view (Outside c.args.slot) tt c.errand.ensures.did.0).2
+returns-clause-outside g c = (knows_free c.errand.new.seat.view (Outside c.args.slot) tt c.errand.ensures.did.0).2.0
 
 pub returns-clause-free : goal.returns-clause-free
 returns-clause-free g c = (knows_free c.errand.new.seat.view (Outside c.args.slot) tt c.errand.ensures.did.0).1

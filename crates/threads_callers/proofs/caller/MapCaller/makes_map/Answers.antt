@@ -6,4 +6,4 @@ pub errand-requires-clause-home : goal.errand-requires-clause-home
 errand-requires-clause-home g c = none_away c.args.self.now.seat.away c.args.self.now.home
 
 pub errand-requires-clause-ends : goal.errand-requires-clause-ends
-errand-requires-clause-ends g c = λ answer w did. rests_after c.args.hasher.now c.args.opening answer c.args.self.now.seat.view w c.args.self.now.lone c.requires.rests did
+errand-requires-clause-ends g c = λ answer w did. rests_after c.args.hasher.now c.args.opening answer c.args.self.now.seat.view w c.args.self.now.lone c.args.self.now.good c.requires.rests did

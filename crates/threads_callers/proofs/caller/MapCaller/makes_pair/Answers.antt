@@ -15,4 +15,4 @@ pub errand-ran-requires-clause-ends : goal.errand-ran-requires-clause-ends
 errand-ran-requires-clause-ends g c =
     λ answer w did.
     rests_answered g.K.PartialEq.eq g.S.Hashes.hash (MakingSays {K = g.row.K.Denot} (FnOnceReturns g.F.FnOnce c.args.make tt)) (wanted_of c.args.machine) answer.told c.args.self.now.seat.view w
-    c.requires.may.2.may.slot c.args.self.now.lone c.requires.may.2.may.inside did
+    c.requires.may.2.may.slot c.args.self.now.lone c.args.self.now.good c.requires.may.2.may.inside did

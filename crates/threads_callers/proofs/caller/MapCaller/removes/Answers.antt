@@ -10,7 +10,7 @@ errand-requires-clause-home g c = none_away c.args.self.now.seat.away c.args.sel
 pub errand-requires-clause-ends : goal.errand-requires-clause-ends
 errand-requires-clause-ends g c =
     λ answer w did.
-    rests_called g.K.PartialEq.eq g.S.Hashes.hash (Remove (g.Q.Equivalent.stands_for c.args.key.now)) answer None c.args.self.now.seat.view w c.requires.may.may.slot c.args.self.now.lone c.requires.may.may.inside did
+    rests_called g.K.PartialEq.eq g.S.Hashes.hash (Remove (g.Q.Equivalent.stands_for c.args.key.now)) answer None c.args.self.now.seat.view w c.requires.may.may.slot c.args.self.now.lone c.args.self.now.good c.requires.may.may.inside did
 
 pub returns-clause-called : goal.returns-clause-called
 returns-clause-called g c = c.errand.ensures.did

@@ -14,4 +14,4 @@ pub errand-ran-requires-clause-ends : goal.errand-ran-requires-clause-ends
 errand-ran-requires-clause-ends g c =
     λ answer w did.
     rests_answered g.K.PartialEq.eq g.S.Hashes.hash (TestSays (MayTest g.F.Fn c.args.test.now)) (RemoveIf (g.Q.Equivalent.stands_for c.args.key.now)) answer.told c.args.self.now.seat.view w
-    c.requires.may.1.may.slot c.args.self.now.lone c.requires.may.1.may.inside did
+    c.requires.may.1.may.slot c.args.self.now.lone c.args.self.now.good c.requires.may.1.may.inside did

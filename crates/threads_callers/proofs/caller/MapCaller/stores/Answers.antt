@@ -12,7 +12,7 @@ pub errand-ran-requires-clause-ends : goal.errand-ran-requires-clause-ends
 errand-ran-requires-clause-ends g c =
     λ answer w did.
     rests_called g.K.PartialEq.eq g.S.Hashes.hash (wanted_of (Key (making c.args.setting c.args.hash c.args.there c.args.pair))) answer.told answer.unstored c.args.self.now.seat.view w
-    c.requires.may.may.slot c.args.self.now.lone c.requires.may.may.inside did
+    c.requires.may.may.slot c.args.self.now.lone c.args.self.now.good c.requires.may.may.inside did
 
 pub returns-clause-called : goal.returns-clause-called
 returns-clause-called g c = c.errand-ran.ensures.did

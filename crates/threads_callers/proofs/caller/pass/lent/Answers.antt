@@ -7,6 +7,7 @@ pub parts_by-requires : goal.parts_by-requires
 parts_by-requires g c = record {
   own = c.requires.own;
   under = c.requires.under;
+  map = c.requires.map;
   free = c.requires.looked.free;
   shown = (
     (g.Q.Equivalent.stands_for c.args._key.now),

@@ -1,3 +1,4 @@
+use Rattle.std.proofs.Common.{inl}
 use Rattle.threads_errands.proofs.Given.ViewsLaws.{seats_come}
 use Rattle.threads_errands.specs.Given.ViewsLooks.{shown_in}
 use Rattle.threads_errands.proofs.Given.StepsShown.{is_shown}
@@ -11,7 +12,7 @@ pub value_by-requires-clause-kept : goal.value_by-requires-clause-kept
 value_by-requires-clause-kept g c =
     let s = c.args.seat.now in let k = c.args.guard.now in let x = what (shown_in s.view.held c.args.block) c.requires.shown in
     c.leanings_begin.ensures.kept g.K.PartialEq.eq g.S.Hashes.hash c.args.blocks.now.words.fixed s.id k.id c.requires.under.0 k.id c.args.block s.view k.view k.view x.0
-    c.requires.under.1 c.requires.free x.1
+    c.requires.under.1 c.requires.free (inl c.requires.map) x.1
 
 pub value_by-requires-clause-there : goal.value_by-requires-clause-there
 value_by-requires-clause-there g c = c.leanings_begin.ensures.there g.K.PartialEq.eq g.S.Hashes.hash c.args.blocks.now.words.fixed

@@ -11,6 +11,7 @@ pub pair_by-requires : goal.pair_by-requires
 pair_by-requires g c = record {
   own = c.requires.own;
   under = c.requires.under;
+  map = c.requires.map;
   free = c.requires.free;
   shown = subst (λ (b : ℕ). IsSome (shown_in c.args.seat.now.view.held b)) (sym c.block_of.ensures) (subst IsSome (sym c.requires.shown.1.3) refl);
 }

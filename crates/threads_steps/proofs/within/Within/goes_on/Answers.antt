@@ -13,6 +13,7 @@ returns-in-Done-clause-made g c =
       );
       refused = tt;
       slot = c.makes.ensures.slot ∙ c.loop-setting.invariant.3;
+      good = λ e. c.makes.ensures.good (c.loop-setting.invariant.6 e);
       calls = c.makes.ensures.calls ∙ c.loop-setting.invariant.5;
     }
 
@@ -25,6 +26,7 @@ returns-in-Refused-clause-made g c =
         subst (λ (r : Advance Setting). KnowsStill r old new) c.in-Refused.is c.makes.ensures.map ∙ c.loop-setting.invariant.2,
       );
       slot = c.makes.ensures.slot ∙ c.loop-setting.invariant.3;
+      good = λ e. c.makes.ensures.good (c.loop-setting.invariant.6 e);
       calls = c.makes.ensures.calls ∙ c.loop-setting.invariant.5;
     }
 

@@ -24,6 +24,10 @@ pub returns-clause-slot : goal.returns-clause-slot
 returns-clause-slot g c =
     (has_made g.K.PartialEq.eq g.S.Hashes.hash c.args.self.now c.requires.makes.0 c.args.opening.now c.requires.makes.1 c.step.new.memory (c.step.new.self, c.step.result) c.step.ensures).slot
 
+pub returns-clause-good : goal.returns-clause-good
+returns-clause-good g c =
+    (has_made g.K.PartialEq.eq g.S.Hashes.hash c.args.self.now c.requires.makes.0 c.args.opening.now c.requires.makes.1 c.step.new.memory (c.step.new.self, c.step.result) c.step.ensures).good
+
 pub returns-clause-calls : goal.returns-clause-calls
 returns-clause-calls g c =
     (has_made g.K.PartialEq.eq g.S.Hashes.hash c.args.self.now c.requires.makes.0 c.args.opening.now c.requires.makes.1 c.step.new.memory (c.step.new.self, c.step.result) c.step.ensures).calls

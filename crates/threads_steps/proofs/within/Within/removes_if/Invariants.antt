@@ -2,7 +2,7 @@ use Rattle.std.specs.Prelude.{ℕ}
 use Rattle.map_measures.specs.ByKey.ByKey.{by_key}
 use Rattle.threads_steps.specs.Asking.{HasGone, MayTest, TestSays, removes_if}
 use Rattle.threads_rule.specs.Errands.Calling.{IsUnderWay, wanted_of}
-use Rattle.threads_rule.specs.CallKinds.Kinds.{Stage}
+use Rattle.threads_kinds.specs.CallKinds.Kinds.{Stage}
 use Rattle.threads_rule.specs.Errands.Looking.{IsOfThem, StaysThere}
 use Rattle.threads_steps.specs.Made.{IsSameSeat}
 use Rattle.threads_steps.proofs.within.Within.removes_if.Given as goal

@@ -2,7 +2,7 @@ use Rattle.std.specs.Prelude.{ℕ}
 use Rattle.map_measures.specs.ByKey.ByKey.{by_key}
 use Rattle.threads_steps.specs.Asking.{HasGone, NoneSaid}
 use Rattle.threads_rule.specs.Errands.Calling.{IsUnderWay}
-use Rattle.threads_rule.specs.CallKinds.Kinds.{Kind, Stage}
+use Rattle.threads_kinds.specs.CallKinds.Kinds.{Kind, Stage}
 use Rattle.threads_rule.specs.Errands.Looking.{IsOfThem, StaysThere}
 use Rattle.threads_steps.specs.Made.{IsSameSeat}
 use Rattle.threads_steps.proofs.within.Within.runs_on_by.Given as goal

@@ -6,7 +6,7 @@ use Rattle.papaya_raw.specs.declared.machines.asking.Takes.TheVariants.{Choices}
 use Rattle.threads_rule.specs.Views.Looks.{shown_in}
 use Rattle.threads_steps.specs.Asking.{MayTest, TestSays, removes_if, reply_of}
 use Rattle.threads_rule.specs.Errands.Calling.{IsAsking, IsUnderWay}
-use Rattle.threads_rule.specs.CallKinds.Kinds.{Stage, IsFit, PairIsVisible, stage_after}
+use Rattle.threads_kinds.specs.CallKinds.Kinds.{Stage, IsFit, PairIsVisible, stage_after}
 use Rattle.threads_steps.proofs.Pausing.{asks_there, same_stage, same_word, shown_at, test_fits, test_says}
 use Rattle.threads_steps.proofs.Told.{asks_pair}
 use Rattle.threads_steps.proofs.within.Within.says.Goals as goal

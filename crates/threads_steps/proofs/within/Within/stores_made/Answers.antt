@@ -5,7 +5,7 @@ use Rattle.papaya_raw.specs.declared.machines.asking.MachineReply.TheVariants.{I
 use Rattle.papaya_raw.specs.declared.machines.progress.Answer.{Answer}
 use Rattle.threads_steps.specs.Asking.{MakingSays, PausedSo, makes_pair}
 use Rattle.threads_rule.specs.Errands.Calling.{HasEnded, IsAsking, outcome_of}
-use Rattle.threads_rule.specs.CallKinds.Kinds.{stage_after}
+use Rattle.threads_kinds.specs.CallKinds.Kinds.{stage_after}
 use Rattle.threads_steps.specs.declared.within.asking.Halt.{Halt}
 use Rattle.threads_rule.proofs.Errands.Beginnings.{stays_on}
 use Rattle.threads_steps.proofs.Pausing.{asks_missing, asks_no_more, calls_told, gone_on, gone_once, none_said, stays_told}

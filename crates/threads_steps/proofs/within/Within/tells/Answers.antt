@@ -1,6 +1,6 @@
 use Rattle.std.proofs.Common.{◌≡◌, sym, subst}
 use Rattle.papaya_raw.specs.declared.machines.machine.Machine.{Machine}
-use Rattle.threads_rule.specs.CallKinds.Kinds.{stage_after}
+use Rattle.threads_kinds.specs.CallKinds.Kinds.{stage_after}
 use Rattle.threads_rule.specs.Errands.Calling.{IsAsking, IsUnderWay}
 use Rattle.threads_rule.specs.Views.Begun.{replied}
 use Rattle.threads_steps.proofs.Forms.{by_key_of_keys}

@@ -4,7 +4,7 @@ use Rattle.map_measures.specs.ByKey.ByKey.{by_key}
 use Rattle.papaya_raw.specs.declared.machines.asking.MachineReply.{MachineReply}
 use Rattle.papaya_raw.specs.declared.machines.machine.Machine.{Machine}
 use Rattle.threads_rule.specs.Errands.Calling.{IsUnderWay}
-use Rattle.threads_rule.specs.CallKinds.Kinds.{stage_after}
+use Rattle.threads_kinds.specs.CallKinds.Kinds.{stage_after}
 use Rattle.threads_steps.proofs.Forms.{replied_by}
 use Rattle.threads_steps.proofs.Told.{goes_told, takes_it}
 use Rattle.threads_steps.proofs.within.Within.tells_by.Goals as goal

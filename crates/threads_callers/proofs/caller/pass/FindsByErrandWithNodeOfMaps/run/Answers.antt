@@ -1,11 +1,10 @@
-use Rattle.std.specs.Prelude.{◌≡◌, ℕ, Some, IfSome}
-use Rattle.std.proofs.Common.{inr, subst, sym, ◌∙◌}
+use Rattle.std.specs.Prelude.{◌≡◌, ℕ, Some, None, IfSome}
+use Rattle.std.proofs.Common.{subst, sym, ap, ◌∙◌}
 use Rattle.seize_seats.specs.Seats.Errands.{Away, Lends}
 use Rattle.seize_views.specs.declared.view.Fixed.{Fixed}
-use Rattle.threads_errands.specs.Given.ViewsRule.{LeansOn}
 use Rattle.threads_errands.specs.Given.ViewsDeclared.view.View.{View}
 use Rattle.threads_callers.specs.Passing.{IsLentBy}
-use Rattle.threads_callers.proofs.Passing.{may_lean, may_look_under, stands_under, found_under, comes_back}
+use Rattle.threads_callers.proofs.Passing.{leans_so, may_lean, may_look_under, stands_under, found_under, comes_back}
 use Rattle.threads_callers.proofs.caller.pass.FindsByErrandWithNodeOfMaps.run.Goals as goal
 
 pub learn-requires-clause-own : goal.learn-requires-clause-own
@@ -23,8 +22,8 @@ learn-requires-clause-errand g c = λ home rests w told. absurd (subst (λ (e : 
 -- it is lent to this errand
 pub learn-requires-clause-leans : goal.learn-requires-clause-leans
 learn-requires-clause-leans g c = λ w told n leans.
-    let here : c.args.self.guard.now.id ≡ n = subst (λ (x : View g.row.K.Denot g.row.V.Denot g.row.S.Denot). LeansOn x.under n) told.2 leans in
-    inr (subst (λ (k : ℕ). Lends c.args.seat.now.away k) (sym c.requires.1.3.3 ∙ here) c.requires.1.2)
+    leans_so c.args.seat.now.view w (Some (c.args.self.guard.now.id, told.0)) n told.2
+    (λ (here : c.args.self.guard.now.id ≡ n). subst (λ (k : ℕ). Lends c.args.seat.now.away k) (sym c.requires.1.3.3 ∙ here) c.requires.1.2) leans
 
 -- on the way, and as it has come back
 pub run-found-requires : goal.run-found-requires
@@ -44,6 +43,7 @@ lent-pair-requires g c =
         (stands_under g.S.Hashes.hash (g.Q.Equivalent.stands_for c.args.self.key.now) c.args.self.lookup k.view s.view c.learn.new.seat.view k.id asks.4 asks.6 c.learn.ensures.goes g.K.PartialEq.eq
             c.run-found.result c.run-found.new.seat.view has).0,
       );
+      map = asks.5 ∙ sym (has.stays.map ∙ ap (λ (x : View g.row.K.Denot g.row.V.Denot g.row.S.Denot). x.map) c.learn.ensures.goes.2);
       looked = has.looked;
     }
 
@@ -62,7 +62,7 @@ turn-requires-clause-errand g c = λ home rests w so.
     absurd (subst (λ (e : Away). Lends e c.requires.1.0) (sym c.learn.ensures.errand ∙ sym c.run-found.ensures.2 ∙ home) c.requires.1.2)
 
 pub turn-requires-clause-leans : goal.turn-requires-clause-leans
-turn-requires-clause-leans g c = λ w so n leans. absurd (subst (λ (x : View g.row.K.Denot g.row.V.Denot g.row.S.Denot). LeansOn x.under n) so leans)
+turn-requires-clause-leans g c = λ w so n leans. leans_so c.run-found.new.seat.view w None n so (λ none. absurd none) leans
 
 pub returns : goal.returns
 returns g c =

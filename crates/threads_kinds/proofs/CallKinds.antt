@@ -7,6 +7,4 @@ mod Asked
 mod Filled
 pub mod Asking
 pub mod Sweeps
-pub mod Swept
-pub mod Machines
 pub mod Telling

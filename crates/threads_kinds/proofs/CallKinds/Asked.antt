@@ -20,7 +20,7 @@ use Rattle.papaya_raw.specs.declared.machines.asking.Told.TheVariants as tells
 use Rattle.papaya_raw.specs.declared.machines.call.Calling.{Calling}
 use Rattle.papaya_raw.specs.declared.machines.call.Calling.TheVariants as at
 use Rattle.papaya_raw.specs.declared.machines.call.KeyCall.{KeyCall}
-use Rattle.threads_rule.specs.CallKinds.Kinds.{Kind, Stage, IsUntold, IsReplied, IsNoValue, IsOneValue, IsOfGap, IsFresh, HoldsBy, IsAtPointSo, PairIsVisible, IsSo, Continues, SaysSo}
+use Rattle.threads_kinds.specs.CallKinds.Kinds.{Kind, Stage, IsUntold, IsReplied, IsNoValue, IsOneValue, IsOfGap, IsFresh, HoldsBy, IsAtPointSo, PairIsVisible, IsSo, Continues, SaysSo}
 
 module _ {K V : Type 0} where
   -- a value that has still to be put into a block is that of a call that has none

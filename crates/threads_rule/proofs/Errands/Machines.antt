@@ -25,13 +25,13 @@ use Rattle.papaya_raw.specs.declared.machines.machine.Machine.TheVariants as kin
 use Rattle.papaya_raw.specs.declared.machines.progress.Progress.{Progress}
 use Rattle.papaya_raw.specs.declared.machines.progress.Progress.TheVariants as progress
 use Rattle.threads_rule.specs.Errands.Calling.{AsksNone, AsksNothing, IsAnswerBy, IsKnownMissing, IsKnownThere, IsSteady, sort_of}
-use Rattle.threads_rule.specs.CallKinds.Kinds.{Kind, Stage, SaysSo}
-use Rattle.threads_rule.specs.CallKinds.Leads.{Leads}
-use Rattle.threads_rule.specs.CallKinds.Sweeps.{IsFor, OutcomeAgreesBy}
-use Rattle.threads_rule.proofs.CallKinds.Asking.{call_is, says}
-use Rattle.threads_rule.proofs.CallKinds.Leads.{leads_as}
-use Rattle.threads_rule.proofs.CallKinds.Quiet.{IsQuiet, quiet_as, reserve_is, sum_is, sweep_is}
-use Rattle.threads_rule.proofs.CallKinds.Sweeps.{sweep_says}
+use Rattle.threads_kinds.specs.CallKinds.Kinds.{Kind, Stage, SaysSo}
+use Rattle.threads_kinds.specs.CallKinds.Leads.{Leads}
+use Rattle.threads_kinds.specs.CallKinds.Sweeps.{IsFor, OutcomeAgreesBy}
+use Rattle.threads_kinds.proofs.CallKinds.Asking.{call_is, says}
+use Rattle.threads_kinds.proofs.CallKinds.Leads.{leads_as}
+use Rattle.threads_kinds.proofs.CallKinds.Quiet.{IsQuiet, quiet_as, reserve_is, sum_is, sweep_is}
+use Rattle.threads_kinds.proofs.CallKinds.Sweeps.{sweep_says}
 
 module _ {K V : Type 0} where
   -- what a step of such a call tells

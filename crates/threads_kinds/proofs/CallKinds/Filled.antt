@@ -15,9 +15,9 @@ use Rattle.papaya_raw.specs.declared.machines.asking.Told.TheVariants as tells
 use Rattle.papaya_raw.specs.declared.machines.call.Calling.{Calling}
 use Rattle.papaya_raw.specs.declared.machines.call.Calling.TheVariants as at
 use Rattle.papaya_raw.specs.declared.machines.call.KeyCall.{KeyCall}
-use Rattle.threads_rule.specs.CallKinds.Kinds.{Kind, Stage, IsUntold, IsNoValue, IsOneValue, IsOfGap, IsGapReplied, IsFresh, HoldsBy, IsAtPointSo, IsSo, SaysSo}
-use Rattle.threads_rule.proofs.CallKinds.Asked.{of_gap}
-use Rattle.threads_rule.specs.CallKinds.Leads.{Leads}
+use Rattle.threads_kinds.specs.CallKinds.Kinds.{Kind, Stage, IsUntold, IsNoValue, IsOneValue, IsOfGap, IsGapReplied, IsFresh, HoldsBy, IsAtPointSo, IsSo, SaysSo}
+use Rattle.threads_kinds.proofs.CallKinds.Asked.{of_gap}
+use Rattle.threads_kinds.specs.CallKinds.Leads.{Leads}
 
 module _ {V : Type 0} where
   untold_none : (t : Told V) (v : V) → IsUntold t → value_replied t ≡ Some v → ⊥

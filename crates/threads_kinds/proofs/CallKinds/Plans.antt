@@ -6,7 +6,7 @@ use Rattle.seize_words.specs.OneMemory.Plan.{Plan, Then, Turn, Do, Now, Seeing, 
 use Rattle.seize_views.specs.Views.Promises.{op_in}
 use Rattle.seize_views.specs.Views.Told.{FollowsBy}
 use Rattle.seize_views.proofs.Views.Looks.{IsNow, rest_of, ends_same, now_ends}
-use Rattle.threads_rule.specs.CallKinds.Answers.{IsAnswer}
+use Rattle.threads_kinds.specs.CallKinds.Answers.{IsAnswer}
 use Rattle.seize_views.proofs.Views.Makes.{IsDo}
 use Rattle.seize_words.proofs.General.{same_some}
 

@@ -54,14 +54,14 @@ use Rattle.papaya_raw.specs.declared.machines.asking.Gap.TheVariants as gaps
 use Rattle.papaya_raw.specs.declared.machines.call.Calling.{Calling}
 use Rattle.papaya_raw.specs.declared.machines.call.Calling.TheVariants as at
 use Rattle.papaya_raw.specs.declared.machines.call.KeyCall.{KeyCall}
-use Rattle.threads_rule.specs.CallKinds.Answers.{IsAnswer}
-use Rattle.threads_rule.specs.CallKinds.Leads.{Leads}
-use Rattle.threads_rule.specs.CallKinds.Kinds.{Kind, Stage, IsFresh, HoldsBy, IsAtPointSo, PairIsVisible, IsSo, Continues, SaysSo}
-use Rattle.threads_rule.proofs.CallKinds.Asked.{of_gap, holds_none, over_says, ending_says, gap_says, pair_says}
-use Rattle.threads_rule.proofs.CallKinds.Filled.{fills_say, gives_say}
-use Rattle.threads_rule.proofs.CallKinds.Pairs.{there_same, pair_named, one_key_named}
-use Rattle.threads_rule.proofs.CallKinds.Leads.{leads_as}
-use Rattle.threads_rule.proofs.CallKinds.Quiet.{IsQuiet, quiet_as, table_is, dispose_is, copier_is, lookup_is}
+use Rattle.threads_kinds.specs.CallKinds.Answers.{IsAnswer}
+use Rattle.threads_kinds.specs.CallKinds.Leads.{Leads}
+use Rattle.threads_kinds.specs.CallKinds.Kinds.{Kind, Stage, IsFresh, HoldsBy, IsAtPointSo, PairIsVisible, IsSo, Continues, SaysSo}
+use Rattle.threads_kinds.proofs.CallKinds.Asked.{of_gap, holds_none, over_says, ending_says, gap_says, pair_says}
+use Rattle.threads_kinds.proofs.CallKinds.Filled.{fills_say, gives_say}
+use Rattle.threads_kinds.proofs.CallKinds.Pairs.{there_same, pair_named, one_key_named}
+use Rattle.threads_kinds.proofs.CallKinds.Leads.{leads_as}
+use Rattle.threads_kinds.proofs.CallKinds.Quiet.{IsQuiet, quiet_as, table_is, dispose_is, copier_is, lookup_is}
 
 module _ {K V Q : Type 0} (k : Kind) (s : Stage) (shown : ℕ → Option (Node K V)) where
   abbrev Says : KeyCall K V Q × Called (Node K V) → Type 0

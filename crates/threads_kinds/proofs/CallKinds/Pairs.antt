@@ -13,7 +13,7 @@ use Rattle.map_tables.specs.declared.node.Node.TheVariants as nodes
 use Rattle.map_tables.specs.declared.resize_mode.ResizeMode.{ResizeMode}
 use Rattle.papaya_raw.specs.Call.{have_one_key}
 use Rattle.map_machines.specs.Lookup.{names_pair}
-use Rattle.threads_rule.specs.CallKinds.Kinds.{PairIsVisible}
+use Rattle.threads_kinds.specs.CallKinds.Kinds.{PairIsVisible}
 
 -- a word that names no pair says not that the key is there
 shut_not : (aim : Aim) → shut aim ≡ found.There → ⊥

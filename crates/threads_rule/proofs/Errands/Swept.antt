@@ -32,11 +32,11 @@ use Rattle.papaya_raw.specs.Given.ReservesDeclared.sweep.Swept.{Swept}
 use Rattle.papaya_raw.specs.Given.ReservesDeclared.sweep.Swept.TheVariants as swept
 use Rattle.papaya_raw.specs.Given.SweepsSweep.{word_found, tried, root_read, next_read, copied, disposed, plan_at, sweep_plan}
 use Rattle.papaya_raw.specs.Given.SweepsSweepPoints.{removes, beginning, tableless, entering, past, at_end, further, told, telling, going, at_pair, seen}
-use Rattle.threads_rule.specs.CallKinds.Answers.{IsAnswer}
-use Rattle.threads_rule.specs.CallKinds.Leads.{Leads}
-use Rattle.threads_rule.specs.CallKinds.Shows.{ReadsWord}
+use Rattle.threads_kinds.specs.CallKinds.Answers.{IsAnswer}
+use Rattle.threads_kinds.specs.CallKinds.Leads.{Leads}
+use Rattle.threads_kinds.specs.CallKinds.Shows.{ReadsWord}
 use Rattle.threads_rule.specs.Errands.Sweeping.{AsksNot}
-use Rattle.threads_rule.proofs.CallKinds.Leads.{leads_as}
+use Rattle.threads_kinds.proofs.CallKinds.Leads.{leads_as}
 
 -- What a step tells from there.
 abbrev pub TellsFrom : {T : Type 0} → Sweeping → Sweep × Swept T → Type 0

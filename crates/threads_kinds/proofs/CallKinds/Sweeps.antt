@@ -32,10 +32,10 @@ use Rattle.papaya_raw.specs.Given.ReservesDeclared.sweep.Swept.{Swept}
 use Rattle.papaya_raw.specs.Given.ReservesDeclared.sweep.Swept.TheVariants as swept
 use Rattle.papaya_raw.specs.Given.SweepsSweep.{word_found, tried, root_read, next_read, copied, disposed, plan_at, sweep_plan}
 use Rattle.papaya_raw.specs.Given.SweepsSweepPoints.{removes, standing, beginning, tableless, entering, past, at_end, further, told, telling, going, at_pair, seen}
-use Rattle.threads_rule.specs.CallKinds.Answers.{IsAnswer}
-use Rattle.threads_rule.specs.CallKinds.Leads.{Leads}
-use Rattle.threads_rule.specs.CallKinds.Sweeps.{IsFor, MayBeAt, OutcomeAgreesBy}
-use Rattle.threads_rule.proofs.CallKinds.Leads.{leads_as}
+use Rattle.threads_kinds.specs.CallKinds.Answers.{IsAnswer}
+use Rattle.threads_kinds.specs.CallKinds.Leads.{Leads}
+use Rattle.threads_kinds.specs.CallKinds.Sweeps.{IsFor, MayBeAt, OutcomeAgreesBy}
+use Rattle.threads_kinds.proofs.CallKinds.Leads.{leads_as}
 
 -- a sweep of any purpose may stand where it neither asks nor is to be asked
 abbrev IsOpen : Sweeping → Type 0

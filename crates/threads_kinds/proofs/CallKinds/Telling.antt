@@ -23,9 +23,9 @@ use Rattle.papaya_raw.specs.declared.machines.asking.Told.TheVariants as tells
 use Rattle.papaya_raw.specs.declared.machines.call.Calling.{Calling}
 use Rattle.papaya_raw.specs.declared.machines.call.Calling.TheVariants as at
 use Rattle.papaya_raw.specs.declared.machines.call.KeyCall.{KeyCall}
-use Rattle.threads_rule.specs.CallKinds.Kinds.{Kind, Stage, IsUntold, IsNoValue, IsOfGap, IsOneValue, IsFresh, HoldsBy, AsksSo, IsFit, IsSo, Continues, stage_after}
-use Rattle.threads_rule.proofs.CallKinds.Asked.{at_gap_says, none_left}
-use Rattle.threads_rule.proofs.CallKinds.Filled.{one_of_first}
+use Rattle.threads_kinds.specs.CallKinds.Kinds.{Kind, Stage, IsUntold, IsNoValue, IsOfGap, IsOneValue, IsFresh, HoldsBy, AsksSo, IsFit, IsSo, Continues, stage_after}
+use Rattle.threads_kinds.proofs.CallKinds.Asked.{at_gap_says, none_left}
+use Rattle.threads_kinds.proofs.CallKinds.Filled.{one_of_first}
 
 module _ {K V Q : Type 0} (k : Kind) (s : Stage) (c : KeyCall K V Q) (is : IsSo k s c) where
   pub ending_goes : (end : End) → Continues k s (ending c end).0

@@ -11,7 +11,7 @@ use Rattle.papaya_raw.specs.declared.machines.machine.Machine.TheVariants as kin
 use Rattle.papaya_raw.specs.declared.machines.progress.Answer.TheVariants.{Key as OfKey}
 use Rattle.papaya_raw.specs.declared.machines.progress.Progress.{Progress}
 use Rattle.papaya_raw.specs.declared.machines.progress.Progress.TheVariants as progress
-use Rattle.threads_rule.specs.CallKinds.Kinds.{PairIsVisible}
+use Rattle.threads_kinds.specs.CallKinds.Kinds.{PairIsVisible}
 
 -- its next step reads the word of its place
 abbrev pub ReadsWord : Sweeping → Type 0

@@ -51,7 +51,7 @@ use Rattle.papaya_raw.specs.Given.ReservesDeclared.sweep.Sweeping.TheVariants as
 use Rattle.papaya_raw.specs.Given.SweepsSweep as sweep
 use Rattle.papaya_raw.specs.Given.SweepsSweep.{sweep_plan}
 use Rattle.seize_views.proofs.Views.Looks.{IsNow}
-use Rattle.threads_rule.proofs.CallKinds.Plans.{ReplacesNone}
+use Rattle.threads_kinds.proofs.CallKinds.Plans.{ReplacesNone}
 
 abbrev pub IsQuiet : {T R : Type 0} → Plan T R → Type 0
 IsQuiet (Turn rest) = IsNow rest

@@ -1,0 +1,469 @@
+-- The seat that owns a map begins to end it, where nobody leans on it; and an end goes on.
+use Rattle.std.specs.Prelude.{◌≢◌, ◌∷◌, Option, Some, None}
+use Rattle.std.specs.Option.{is_none}
+use Rattle.std.proofs.Common.{◌≡◌, ℕ, ◌≤◌, Bool, true, false, List, [], ◌⊎◌, inl, inr, refl, sym, subst, ap, ◌∙◌}
+use Rattle.std.proofs.lemmas.Bool.{cases_eq}
+use Rattle.seize_words.specs.OneMemory.Mem.{Mem, Can, Took, value_at}
+use Rattle.seize_words.specs.OneMemory.Op.{Op, Out}
+use Rattle.seize_words.specs.OneMemory.Plan.{Steps, May}
+use Rattle.seize.specs.Law.{holds, owner_of}
+use Rattle.seize.specs.World.{World, Row, Use, Rests, Ends as EndsOwner, with_at}
+use Rattle.seize.specs.declared.rows.settle.Settled.{Settled}
+use Rattle.seize.specs.declared.rows.settle.Settled.TheVariants as settled
+use Rattle.map_tables.specs.Nodes.{deferred_word}
+use Rattle.map_tables.specs.declared.node.Node.{Node}
+use Rattle.map_tables.specs.declared.setting.Setting.{Setting}
+use Rattle.papaya_raw.specs.EndMap.{ending, end_map_plan}
+use Rattle.papaya_raw.specs.declared.machines.end_map.EndMap.{EndMap}
+use Rattle.papaya_raw.specs.declared.machines.machine.Machine.{Machine}
+use Rattle.many_acts.specs.Given.CallersRows.{IsUsedAlike}
+use Rattle.many_acts.specs.Given.CallersTogether.{UnderWay}
+use Rattle.many_acts.specs.Given.FinishesEndings.{Finishing, StepsOfEnding, finishing_of}
+use Rattle.many_acts.specs.Given.FinishesFactsEnds.{Deed, Looks, TakesPair, LeavesTable, JoinsPair, TakesLeft, TakesCounter, WritesRoot, events_of}
+use Rattle.many_acts.specs.Given.FinishesMaps.{Standing}
+use Rattle.many_acts.specs.Given.ScenesEnding.{ending_begun}
+use Rattle.many_acts.specs.Given.ScenesScene.{Scene, slot_of}
+use Rattle.many_acts.specs.Acts.Acts.{Act, BeginsEnding, StepsEnding}
+use Rattle.many_acts.specs.Acts.Doings.{Does, MayDo}
+use Rattle.many_acts.specs.Acts.Leads.{AllStand, Led, EndingCame, ending_steps}
+use Rattle.many_acts.specs.Acts.Lists.{AllMayStep, AllAreActs}
+use Rattle.many_acts.proofs.Given.CallersTogether.At.{at_same, at_other}
+use Rattle.many_acts.proofs.Given.CallersTogether.Came.{came_reached}
+use Rattle.many_acts.proofs.Given.CallersTogether.Slots.{alike_same}
+use Rattle.many_acts.proofs.Acts.Lists.{steps_are_acts}
+use Rattle.seize_model.proofs.Alone.Histories.Reached.{Reached}
+use Rattle.seize_acts.specs.Acts.Answers.{Grant, then_on}
+use Rattle.seize_seats.specs.Seats.Errands.{IsUnlent}
+use Rattle.seize_seats.specs.Seats.State.{State, view_of, Goes}
+use Rattle.seize_views.specs.Views.Told.{FollowsBy}
+use Rattle.seize_views.specs.declared.view.Fixed.{Fixed}
+use Rattle.seize_views.specs.declared.view.SlotView.{SlotView}
+use Rattle.seize_views.specs.declared.view.SlotView.TheVariants as slot_view
+use Rattle.threads_rule.specs.Views.Begun.{ending_own}
+use Rattle.threads_rule.specs.Views.Listed.{calls_of}
+use Rattle.threads_rule.specs.Views.Looks.{shown_in}
+use Rattle.threads_rule.specs.Views.Promises.{EndingsBegin, EndingsContinue}
+use Rattle.threads_rule.specs.Views.Rule.{MapsWorld, HasRow, HasEnding, DoesSo, KnowsMap, AreRuns, Fits, AreSo, Holds, KeepsFor, IsBy, IsFresh, IsIdle, IsSlot, Leans, caller_at, acts_in}
+use Rattle.threads_rule.specs.Views.Told.{told, observed_by, ended_after}
+use Rattle.threads_rule.specs.declared.view.BegunCall.{BegunCall}
+use Rattle.threads_rule.specs.declared.view.Map.{Map}
+use Rattle.threads_rule.specs.declared.view.View.{View}
+use Rattle.threads_rule.specs.declared.view.SeatWork.{SeatWork}
+use Rattle.threads_rule.specs.declared.view.SeatWork.TheVariants.{Nothing, Calls, Makes, Ends}
+use Rattle.threads_rule.proofs.Views.Knows.{knows_rests}
+use Rattle.threads_rule.proofs.Views.Leaves.{Leaves, Lasts, own_idle, map_on, all_last}
+use Rattle.threads_rule.proofs.Views.Listed.{numbered_on}
+use Rattle.threads_rule.proofs.Views.Looked.{Made, may_op}
+use Rattle.threads_rule.proofs.Views.Moved.{scene_of, all_stand, are_so, KnowsThen, Moved, knows_alike, same_slot, moved}
+use Rattle.threads_rule.proofs.Views.Quiet.{there, held_is_linked}
+use Rattle.threads_rule.proofs.Views.Ran.{AreNoRows, no_rows_pass}
+use Rattle.threads_rule.proofs.Views.Taking.{ends_keep, ends_keep_made, ends_keep_handed}
+use Rattle.threads_rule.proofs.Views.Whose.{Seated, whose}
+use Rattle.seize_words.proofs.General.{same_some}
+
+module _ {K V S : Type 0} (same : K → K → Bool) (hash : S → K → ℕ) (fixed : Fixed) (s : State (Node K V) (View K V S) (MapsWorld K V S)) (h : Holds same hash fixed s)
+    (id : ℕ) (v : View K V S) (at_id : view_of s id ≡ Some v) (map : Map S) (rests : v.slot ≡ slot_view.Rests) (free : v.work ≡ Nothing) (owns : v.own ≡ Some map)
+    (unlent : IsUnlent Leans id s) where
+  abbrev scene : Scene K V
+  scene = scene_of same hash fixed s h
+
+  all : AllStand same hash fixed.batch_size fixed.roots slot_of scene
+  all = all_stand same hash fixed s h
+
+  so : AreSo same hash s scene
+  so = are_so same hash fixed s h
+
+  fits : Fits same hash scene id v
+  fits = so.seats id v at_id
+
+  abbrev place : ℕ
+  place = acts_in v.under v.slot
+
+  abbrev i : ℕ
+  i = caller_at id place
+
+  has_row : HasRow scene i slot_view.Rests
+  has_row =
+      subst (λ (x : SlotView (Node K V)). HasRow scene i x) rests
+      (subst (λ (x : SeatWork K V S). DoesSo same hash scene i v.under v.slot v.map x) free fits.does)
+
+  it : KnowsMap same hash scene (Some map)
+  it = subst (λ (o : Option (Map S)). KnowsMap same hash scene o) owns fits.own
+
+  -- who knows the map but by its owner is its owner
+  nobody_knows : (k : ℕ) (x : View K V S) → view_of s k ≡ Some x → (a : Map S) → x.map ≡ Some a → a.number ≡ map.number → ⊥
+  nobody_knows k x at a e number = unlent k x at (inr (subst (λ (o : Option ℕ). IsBy o id) (sym ((so.maps k id x v map at at_id owns).known a e number)) refl))
+
+  -- so nobody has a call on it
+  no_call : (a : ℕ) → scene.calls map.number a ≡ None
+  no_call a = elim (whose same hash scene (view_of s) so.seats so.unborn a) as (λ _. scene.calls map.number a ≡ None) [
+    | inl idle ↦ idle.calls map.number
+    | inr k ↦ by_work k k.knows.work k.knows.map refl k.does
+  ]
+    where
+      by_work : (k : Seated same hash scene (view_of s) so.seats so.unborn a) (work : SeatWork K V S) (known : Option (Map S)) → k.knows.map ≡ known
+          → DoesSo same hash scene a k.knows.under k.knows.slot known work → scene.calls map.number a ≡ None
+      by_work k Nothing known e d = d.calls map.number
+      by_work k (Makes mine m hasher opening) known e d = d.1.calls map.number
+      by_work k (Ends machine) known e d = d.1.calls map.number
+      by_work k (Calls machine) None e d = absurd d
+      by_work k (Calls machine) (Some its) e d = none_of (scene.calls map.number a) refl
+        where
+          none_of : (o : Option (UnderWay K V K)) → scene.calls map.number a ≡ o → scene.calls map.number a ≡ None
+          none_of None is = is
+          none_of (Some u) is =
+              let call = d.3.here in
+              absurd (nobody_knows k.seat k.knows k.here its e (all.makings.standing.once its.number map.number a (λ none. cc (none, call)) (λ none. cc (none, is))))
+
+  may : MayDo V same hash fixed.batch_size fixed.roots slot_of (Does (BeginsEnding i map.number)) h.reached.0
+  may = (
+    ap is_none h.nobody,
+    (
+      record { no_call = λ a. ap is_none (has_row.calls a); no_making = ap is_none has_row.makers; no_ending = ap is_none has_row.enders },
+      ap is_none it.1,
+      λ j. ap is_none (no_call j),
+    ),
+  )
+
+  led : Led same hash fixed.batch_size fixed.roots slot_of (BeginsEnding i map.number) scene (h.course.told h.reached.0 (Does (BeginsEnding i map.number)) may)
+      (h.course.next h.reached.0 (Does (BeginsEnding i map.number)) may).0
+  led = (h.course.leads h.reached.0 (Does (BeginsEnding i map.number)) may).0
+
+  abbrev n : Scene K V
+  n = ending_begun map.number i led.0 scene
+
+  same_it : it.0 ≡ led.0
+  same_it = same_some it.0 led.0 (sym it.1 ∙ led.1)
+
+  abbrev w : View K V S
+  w = ending_own v map
+
+  leaves : Leaves same hash fixed.batch_size scene n i None
+  leaves = record {
+    rows = λ k ne. refl;
+    calls = λ a k ne. refl;
+    makers = λ k ne. refl;
+    enders = λ k ne. at_other scene.enders i (Some (finishing_of led.0 scene.world)) k ne;
+    uses = λ t used apart. alike_same (scene.world.uses t);
+    ends = Some map.number;
+    maps = λ a r lasts is. (r, at_other scene.maps map.number None a (λ e. lasts (ap (λ (x : ℕ). Some x) (sym e))) ∙ is, refl, refl);
+    held = λ t b a r apart inside lasts stands owner held. (held, refl, refl);
+    made = λ k ne b x made is other. is;
+    keeps = λ b its there some. refl;
+    passes = λ c ne was now. (EndsOwner i led.0.setting.counter ∷ [], (n.world, tt, refl, now, refl));
+  }
+
+  ends_it : leaves.ends ≡ Some map.number
+  unfolding leaves
+  ends_it = refl
+
+  known_lasts : (o : Option (Map S)) → v.map ≡ o → Lasts same hash scene n id place fits.slot fixed.batch_size None leaves o
+  known_lasts None e = tt
+  known_lasts (Some a) e = λ ends. nobody_knows id v at_id a e (same_some a.number map.number (sym ends ∙ ends_it))
+
+  knows : KnowsThen same hash fixed s h id v w
+  knows = record {
+    by = λ m e. (e, refl);
+    own = inr (λ j y at e. unlent j y at (inr (subst (λ (o : Option ℕ). IsBy o id) (sym e) refl)));
+    map = λ a e. inl (e, refl);
+    mine = λ a e. absurd (cc e);
+    apart = λ a b e g. absurd (cc g);
+  }
+
+  fresh : IsFresh n so.fresh.0
+  fresh = (λ a above. by a above (cases_eq a map.number), so.fresh.1.1)
+    where
+      by : (a : ℕ) → so.fresh.0 ≤ a → (a ≡ map.number) ⊎ (a ≢ map.number) → n.maps a ≡ None
+      by a above (inl e) = at_same scene.maps map.number None a e
+      by a above (inr ne) = at_other scene.maps map.number None a ne ∙ so.fresh.1.0 a above
+
+  abbrev act : Act K V S
+  act = BeginsEnding i map.number
+
+  go : Moved same hash fixed s h id act s.memory w n
+  go = record {
+    memory = so.memory;
+    own = record {
+      slot = fits.slot;
+      aside = fits.aside;
+      does = (
+        rests,
+        record {
+          ending = finishing_of led.0 scene.world;
+          here = at_same scene.enders i (Some (finishing_of led.0 scene.world)) i refl;
+          is = ap (λ (x : Setting). ending x false) (ap (λ (x : Standing K). x.setting) (sym same_it) ∙ it.2);
+          calls = has_row.calls;
+        },
+        has_row.row,
+      );
+      map = map_on same hash scene n id place fits.slot fixed.batch_size None leaves v.map (known_lasts v.map refl) fits.map;
+      own = tt;
+      only = tt;
+      held = tt;
+      pair = tt;
+      idle = own_idle same hash scene n id place fits.slot fixed.batch_size None leaves fits.idle;
+    };
+    place = place;
+    its_slot = fits.slot;
+    mine = None;
+    leaves = leaves;
+    theirs = λ j t a b x ne at uses e. cc e;
+    alone = same_slot same hash fixed s h id v w at_id refl;
+    under = λ x at. ap (λ (y : View K V S). y.under) (same_some v x (sym at_id ∙ at));
+    knows = λ x at. subst (λ (y : View K V S). KnowsThen same hash fixed s h id y w) (same_some v x (sym at_id ∙ at)) knows;
+    gone = λ m e. (
+      unlent,
+      λ x at. (map, ap (λ (y : View K V S). y.own) (sym (same_some v x (sym at_id ∙ at))) ∙ owns, same_some map.number m (sym ends_it ∙ e)),
+    );
+    leant = inl (refl, λ x at. ap (λ (y : View K V S). y.slot) (same_some v x (sym at_id ∙ at)));
+    fresh = (so.fresh.0, fresh, numbered_on s.world.doings (Does act ∷ []) 0 so.fresh.0 so.fresh.0 so.fresh.2 refl);
+    row = knows_rests fixed n id v.slot rests;
+  }
+
+  begins : Goes (Holds same hash fixed) KeepsFor s s.memory id (λ x. x ≡ w)
+  begins =
+      moved same hash fixed s h id v at_id act may n led.3 s.memory w go
+      (record { own = ((λ a k. 0), tt); others = λ j ne theirs. refl; its = λ are. are; newest = λ other on. absurd (cc on); aside = λ j ne theirs. refl; seen = λ before b x none. absurd (cc none) })
+      (λ x. x ≡ w) refl
+
+-- what an end does is nobody's row
+deeds_no_rows : {T : Type 0} (defers : T → Option ℕ) (size i : ℕ) (deed : Deed) → AreNoRows defers size (events_of i deed)
+deeds_no_rows defers size i Looks = tt
+deeds_no_rows defers size i (TakesPair b) = ((λ j. tt), ((λ j. tt), ((λ j. tt), tt)))
+deeds_no_rows defers size i (LeavesTable b further) = ((λ j. tt), ((λ j. tt), tt))
+deeds_no_rows defers size i (JoinsPair b word) = ((λ j. tt), tt)
+deeds_no_rows defers size i (TakesLeft b) = ((λ j. tt), tt)
+deeds_no_rows defers size i (TakesCounter b) = ((λ j. tt), tt)
+deeds_no_rows defers size i (WritesRoot place word) = ((λ j. tt), tt)
+
+module _ {K V S : Type 0} (same : K → K → Bool) (hash : S → K → ℕ) (fixed : Fixed) (s : State (Node K V) (View K V S) (MapsWorld K V S)) (h : Holds same hash fixed s)
+    (id : ℕ) (v : View K V S) (at_id : view_of s id ≡ Some v) (machine : EndMap) (works : v.work ≡ Ends machine) where
+  abbrev scene_now : Scene K V
+  scene_now = scene_of same hash fixed s h
+
+  all_now : AllStand same hash fixed.batch_size fixed.roots slot_of scene_now
+  all_now = all_stand same hash fixed s h
+
+  so_now : AreSo same hash s scene_now
+  so_now = are_so same hash fixed s h
+
+  fits_now : Fits same hash scene_now id v
+  fits_now = so_now.seats id v at_id
+
+  abbrev place_now : ℕ
+  place_now = acts_in v.under v.slot
+
+  abbrev me : ℕ
+  me = caller_at id place_now
+
+  does : (v.slot ≡ slot_view.Rests) × HasEnding scene_now me machine × (scene_now.world.row me ≡ Rests)
+  does = subst (λ (x : SeatWork K V S). DoesSo same hash scene_now me v.under v.slot v.map x) works fits_now.does
+
+  acts : AllMayStep V same hash fixed.batch_size fixed.roots slot_of scene_now × AllAreActs V same hash fixed.batch_size fixed.roots slot_of scene_now
+  acts = steps_are_acts {V = V} same hash fixed.batch_size fixed.roots slot_of scene_now all_now
+
+  may_step : May Can Took value_at scene_now.world.memory (end_map_plan {K = K} {V = V} machine)
+  may_step = subst (λ (x : EndMap). May Can Took value_at scene_now.world.memory (end_map_plan {K = K} {V = V} x)) does.1.is (acts.0.endings me does.1.ending does.1.here)
+
+  module _ (m2 : Mem (Node K V)) (out : Out (Node K V)) (made : Made scene_now.world.memory (end_map_plan {K = K} {V = V} machine) out m2) where
+    granted : (g : Grant) × (ending_steps same hash fixed.batch_size fixed.roots slot_of scene_now g does.1.ending ≡ Some (m2, made.end))
+    granted =
+        acts.1.endings me does.1.ending does.1.here m2 made.end
+        (subst (λ (x : EndMap). Steps Took value_at scene_now.world.memory (end_map_plan {K = K} {V = V} x) m2 made.end) (sym does.1.is) made.steps)
+
+    step_may : MayDo V same hash fixed.batch_size fixed.roots slot_of (Does (StepsEnding me granted.0)) h.reached.0
+    step_may = (
+      ap is_none h.nobody,
+      ap is_none (ap (λ (o : Option (Finishing K V)). then_on o (ending_steps same hash fixed.batch_size fixed.roots slot_of scene_now granted.0)) does.1.here ∙ granted.1),
+    )
+
+    abbrev stage : Scene K V
+    stage = (h.course.next h.reached.0 (Does (StepsEnding me granted.0)) step_may).0
+
+    step_led : Led same hash fixed.batch_size fixed.roots slot_of (StepsEnding me granted.0) scene_now (h.course.told h.reached.0 (Does (StepsEnding me granted.0)) step_may) stage
+    step_led = (h.course.leads h.reached.0 (Does (StepsEnding me granted.0)) step_may).0
+
+    abbrev d : Finishing K V
+    d = step_led.0
+
+    same_ending : does.1.ending ≡ d
+    same_ending = same_some does.1.ending d (sym does.1.here ∙ step_led.1)
+
+    both : ◌≡◌ {A = Mem (Node K V) × (EndMap × Settled (Node K V))} (m2, made.end) (step_led.2, (step_led.3, step_led.4))
+    both =
+        same_some (m2, made.end) (step_led.2, (step_led.3, step_led.4))
+        (sym granted.1 ∙ ap (λ (x : Finishing K V). ending_steps same hash fixed.batch_size fixed.roots slot_of scene_now granted.0 x) same_ending ∙ step_led.5)
+
+    memory_is : m2 ≡ step_led.2
+    memory_is = ap (λ (p : Mem (Node K V) × (EndMap × Settled (Node K V))). p.0) both
+
+    end_is : made.end ≡ (step_led.3, step_led.4)
+    end_is = ap (λ (p : Mem (Node K V) × (EndMap × Settled (Node K V))). p.1) both
+
+    abbrev did : StepsOfEnding V same same fixed.batch_size fixed.roots slot_of scene_now.world scene_now.maps scene_now.calls scene_now.makers scene_now.enders me d step_led.2 (step_led.3, step_led.4)
+    did = step_led.7
+
+    abbrev w2 : World (Node K V)
+    w2 = did.w2
+
+    -- it is a step of the end in the scene
+    its_steps : Steps Took value_at scene_now.world.memory (end_map_plan {K = K} {V = V} d.machine) step_led.2 (step_led.3, step_led.4)
+    its_steps =
+        subst (λ (x : Finishing K V). Steps Took value_at scene_now.world.memory (end_map_plan {K = K} {V = V} x.machine) step_led.2 (step_led.3, step_led.4)) same_ending
+        (subst (λ (x : EndMap). Steps Took value_at scene_now.world.memory (end_map_plan {K = K} {V = V} x) step_led.2 (step_led.3, step_led.4)) (sym does.1.is)
+        (subst (λ (x : Mem (Node K V)). Steps Took value_at scene_now.world.memory (end_map_plan {K = K} {V = V} machine) x (step_led.3, step_led.4)) memory_is
+        (subst (λ (x : EndMap × Settled (Node K V)). Steps Took value_at scene_now.world.memory (end_map_plan {K = K} {V = V} machine) m2 x) end_is made.steps)))
+
+    reached : Reached deferred_word fixed.batch_size scene_now.world
+    reached = came_reached fixed.batch_size scene_now.world all_now.makings.standing.came
+
+    -- what a section holds of another map stays
+    holds_on : (t b m : ℕ) (r : Standing K) → scene_now.maps m ≡ Some r → owner_of b scene_now.world.log ≡ r.setting.counter → holds t b scene_now.world.log ≡ true
+        → (holds t b w2.log ≡ true) × (owner_of b w2.log ≡ owner_of b scene_now.world.log) × (value_at w2.memory b ≡ value_at scene_now.world.memory b)
+    holds_on t b m r stands owner held =
+        ends_keep same hash fixed.batch_size fixed.roots scene_now all_now me d step_led.1 step_led.2 (step_led.3, step_led.4) its_steps did t b
+        (λ has is. all_now.counters_apart me m d r step_led.1 stands has (sym is ∙ owner))
+        (λ k is. held_is_linked deferred_word fixed.batch_size scene_now.world reached t b held k is)
+        (there deferred_word fixed.batch_size scene_now.world reached t b held) held
+
+    -- where it has come: ends are these then
+    module _ (it : Option (Finishing K V)) where
+      abbrev n2 : Scene K V
+      n2 = record { world = w2; maps = scene_now.maps; calls = scene_now.calls; makers = scene_now.makers; enders = with_at scene_now.enders me it }
+
+      step_leaves : Leaves same hash fixed.batch_size scene_now n2 me None
+      step_leaves = record {
+        rows = λ k ne. ap (λ (f : ℕ → Row). f k) did.spares.rows;
+        calls = λ a k ne. refl;
+        makers = λ k ne. refl;
+        enders = λ k ne. at_other scene_now.enders me it k ne;
+        uses = λ t used apart. subst (λ (u : ℕ → Use). IsUsedAlike (scene_now.world.uses t) (u t)) (sym did.spares.uses) (alike_same (scene_now.world.uses t));
+        ends = None;
+        maps = λ a r lasts is. (r, is, refl, refl);
+        held = λ t b m r apart inside lasts stands owner held. holds_on t b m r stands owner held;
+        made = λ k ne. ends_keep_made same hash fixed.batch_size fixed.roots scene_now all_now me d step_led.1 step_led.2 (step_led.3, step_led.4) its_steps did k;
+        keeps = λ b its before some.
+            ends_keep_handed same hash fixed.batch_size fixed.roots scene_now all_now me d step_led.1 step_led.2 (step_led.3, step_led.4) its_steps did b some;
+        passes = λ c ne was now.
+            (events_of me did.deed, no_rows_pass deferred_word fixed.batch_size (events_of me did.deed) scene_now.world w2 (deeds_no_rows deferred_word fixed.batch_size me did.deed) did.runs c was);
+      }
+
+      none_ends : step_leaves.ends ≡ None
+      unfolding step_leaves
+      none_ends = refl
+
+      its_row : w2.row me ≡ Rests
+      its_row = ap (λ (f : ℕ → Row). f me) did.spares.rows ∙ does.2
+
+      goes_by : (x : View K V S) (so_told : View K V S → Type 0) → stage ≡ n2 → x.slot ≡ v.slot → x.under ≡ v.under → x.map ≡ v.map → x.by ≡ v.by → x.own ≡ v.own → x.calls ≡ v.calls
+          → ((other : Machine K V K) → x.work ≡ Calls other → ⊥) → x.held ≡ [] → Fits same hash n2 id x → so_told x → Goes (Holds same hash fixed) KeepsFor s m2 id so_told
+      goes_by x so_told comes slot_is under_is map_is by_is own_is calls_are no_calls none own is =
+          moved same hash fixed s h id v at_id (StepsEnding me granted.0) step_may n2 comes m2 x
+          (record {
+            memory = memory_is ∙ sym did.memory;
+            own = own;
+            place = place_now;
+            its_slot = fits_now.slot;
+            mine = None;
+            leaves = step_leaves;
+            theirs = λ j t a b y ne at uses e. cc e;
+            alone = same_slot same hash fixed s h id v x at_id slot_is;
+            under = λ y at. under_is ∙ ap (λ (z : View K V S). z.under) (same_some v y (sym at_id ∙ at));
+            knows = knows_alike same hash fixed s h id v x at_id map_is by_is own_is;
+            gone = λ m e. absurd (cc (none_ends, e));
+            leant = inl (refl, λ y at. slot_is ∙ ap (λ (z : View K V S). z.slot) (same_some v y (sym at_id ∙ at)));
+            fresh = (so_now.fresh.0, so_now.fresh.1, numbered_on s.world.doings (Does (StepsEnding me granted.0) ∷ []) 0 so_now.fresh.0 so_now.fresh.0 so_now.fresh.2 refl);
+            row = knows_rests fixed n2 id x.slot (slot_is ∙ does.0);
+          })
+          (record {
+            own = ((λ a k. 0), tt);
+            others = λ j ne theirs. refl;
+            its = λ are. subst (λ (runs : List (BegunCall K V)). AreRuns same hash (calls_of id s.world.doings h.reached.1 []) runs) (sym calls_are) are;
+            newest = λ other on. absurd (no_calls other on);
+            aside = λ j ne theirs. refl;
+            seen = λ before b y shown. (let some = sym (ap (λ (l : List (ℕ × Node K V)). shown_in l b) none) ∙ shown in absurd (cc some));
+          }) so_told is
+
+      map_still : KnowsMap same hash n2 v.map
+      map_still = map_on same hash scene_now n2 id place_now fits_now.slot fixed.batch_size None step_leaves v.map (all_last same hash scene_now n2 id place_now fits_now.slot fixed.batch_size None step_leaves none_ends v.map) fits_now.map
+
+      own_still : KnowsMap same hash n2 v.own
+      own_still = map_on same hash scene_now n2 id place_now fits_now.slot fixed.batch_size None step_leaves v.own (all_last same hash scene_now n2 id place_now fits_now.slot fixed.batch_size None step_leaves none_ends v.own) fits_now.own
+
+      its_idle : (t : ℕ) → IsSlot t → t ≢ place_now → IsIdle n2 (caller_at id t)
+      its_idle = own_idle same hash scene_now n2 id place_now fits_now.slot fixed.batch_size None step_leaves fits_now.idle
+
+    -- the end goes on
+    goes_on : (so_told : View K V S → Type 0) (next : Finishing K V) → next.machine ≡ step_led.3 → stage ≡ n2 (Some next)
+        → so_told record { slot = v.slot; under = v.under; map = v.map; by = v.by; own = v.own; work = Ends step_led.3; looks = made.looks; held = []; began = v.began; calls = v.calls }
+        → Goes (Holds same hash fixed) KeepsFor s m2 id so_told
+    goes_on so_told next its came is =
+        goes_by (Some next) (record { slot = v.slot; under = v.under; map = v.map; by = v.by; own = v.own; work = Ends step_led.3; looks = made.looks; held = []; began = v.began; calls = v.calls }) so_told came
+        refl refl refl refl refl refl (λ other on. cc on) refl
+        (record {
+          slot = fits_now.slot;
+          aside = fits_now.aside;
+          does = (does.0, record { ending = next; here = at_same scene_now.enders me (Some next) me refl; is = its; calls = does.1.calls }, its_row (Some next));
+          map = map_still (Some next);
+          own = own_still (Some next);
+          only = tt;
+          held = tt;
+          pair = tt;
+          idle = its_idle (Some next);
+        })
+        is
+
+    by : (so_told : View K V S → Type 0) (end : Settled (Node K V)) → so_told (ended_after v made.looks step_led.3 end) → EndingCame same hash fixed.batch_size fixed.roots slot_of scene_now me d did.w2 did.deed step_led.3 stage end
+        → Goes (Holds same hash fixed) KeepsFor s m2 id so_told
+    by so_told settled.Goes is came = goes_on so_told _ refl came.1 is
+    by so_told settled.Waits is came = absurd came
+    by so_told (settled.Gave value) is (b, was, taken, came) = goes_on so_told _ refl came is
+    by so_told settled.Done is came =
+        goes_by None (ended_after v made.looks step_led.3 settled.Done) so_told came.2 refl refl refl refl refl refl (λ other on. cc on) refl
+        (record {
+          slot = fits_now.slot;
+          aside = fits_now.aside;
+          does =
+              subst (λ (x : SlotView (Node K V)). HasRow (n2 None) me x) (sym does.0) (record {
+                row = its_row None;
+                slot = tt;
+                calls = does.1.calls;
+                makers = (all_now.alone me d step_led.1).1;
+                enders = at_same scene_now.enders me None me refl;
+              });
+          map = map_still None;
+          own = own_still None;
+          only = tt;
+          held = tt;
+          pair = tt;
+          idle = its_idle None;
+        })
+        is
+
+    looks_same : (end : Settled (Node K V)) → (ended_after v made.looks step_led.3 end).looks ≡ made.looks
+    looks_same settled.Goes = refl
+    looks_same settled.Waits = refl
+    looks_same (settled.Gave value) = refl
+    looks_same settled.Done = refl
+
+    goes : (op : Op (Node K V)) → Goes (Holds same hash fixed) KeepsFor s m2 id (told same hash v op out)
+    goes op =
+        by (told same hash v op out) step_led.4
+        (subst (λ (k : SeatWork K V S). observed_by same hash v v.map k op out (ended_after v made.looks step_led.3 step_led.4)) (sym works) (
+          (step_led.3, step_led.4),
+          subst (λ (l : List (ℕ × Node K V)). FollowsBy (shown_in l) (end_map_plan {K = K} {V = V} machine) out (step_led.3, step_led.4)) (sym (looks_same step_led.4))
+              (subst (λ (e : EndMap × Settled (Node K V)). FollowsBy (shown_in made.looks) (end_map_plan {K = K} {V = V} machine) out e) end_is made.follows),
+          ap (λ (l : List (ℕ × Node K V)). ended_after v l step_led.3 step_led.4) (sym (looks_same step_led.4)),
+        )) step_led.8
+
+module _ {K S : Type 0} (V : Type 0) (same : K → K → Bool) (hash : S → K → ℕ) where
+  pub endings_begin : EndingsBegin V same hash
+  endings_begin fixed id v map rests free owns s h at_id unlent = begins same hash fixed s h id v at_id map rests free owns unlent
+
+  pub endings_go_on : EndingsContinue V same hash
+  endings_go_on fixed id v machine op works makes s h at_id =
+      let step = may_op (scene_now same hash fixed s h id v at_id machine works).world.memory (end_map_plan machine) op makes (may_step same hash fixed s h id v at_id machine works) in
+      let is = (so_now same hash fixed s h id v at_id machine works).memory in (
+        subst (λ (x : Mem (Node K V)). Can x op) (sym is) step.0,
+        λ out m2 took. goes same hash fixed s h id v at_id machine works m2 out (step.1 out m2 (subst (λ (x : Mem (Node K V)). Took x op out m2) is took)) op,
+      )
