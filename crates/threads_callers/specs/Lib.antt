@@ -1,4 +1,5 @@
 pub mod Answers
 pub mod Standing
 pub mod Passing
+pub mod Loans
 pub mod Given

@@ -7,6 +7,8 @@ ghost use Rattle.seize_views.specs.declared.view.SlotView.TheVariants.{Rests};
 ghost use Rattle.seize_callers.specs.Kept.{is_home};
 
 mod calls;
+mod lending;
+mod owning;
 mod pass;
 mod rows;
 mod seats;
@@ -14,6 +16,7 @@ mod sends;
 
 use crate::showing::newcomer;
 use map_tables::{Hashes, Node};
+pub use lending::Done;
 pub use pass::MapPassSeat;
 use seize_blocks::{Blocks, Seat};
 use threads_errands::{OfMaps, Sleepers};
