@@ -20,6 +20,7 @@ use Rattle.threads_errands.specs.Given.ViewsRule.{Holds}
 use Rattle.threads_errands.specs.Given.ViewsDeclared.view.Map.{Map}
 use Rattle.threads_errands.specs.Given.ViewsDeclared.view.View.{View}
 use Rattle.threads_errands.specs.Given.ViewsDeclared.view.SeatWork.TheVariants.{Nothing}
+use Rattle.threads_callers.specs.Passing.{IsBack}
 use Rattle.threads_callers.specs.declared.caller.MapCaller.{MapCaller}
 
 -- the word of a pair that the map has no longer, and of one that it has, as an answer names them
@@ -74,22 +75,43 @@ module _ {K V S : Type 0} where
     pub done : did (within v guard.seat.id slot owner.seat.id map) knew
     pub back : w ≡ back_from knew
 
-  -- what comes to its end where it stood, with nothing under way, and shows what its answer names
+  -- what comes to its end where it stood, with nothing under way, and shows the pairs that its answer names
   pub record EndsThere (names : Names) (v w : View K V S) : Type 0 where
     pub free : w.work ≡ Nothing
     pub stays : StaysThere v w
     pub gone : IfSome names.0 (PairIsVisible (shown_in w.held))
     pub there : IfSome names.1 (PairIsVisible (shown_in w.held))
 
-module _ {K V S : Type 0} (same : K → K → Bool) (hash : S → K → ℕ) where
+  module _ {A : Type 0} (did : View K V S → A → View K V S → Type 0) (names : A → Names) where
+    -- so it does with any answer
+    abbrev pub AllEndThere : Type 0
+    AllEndThere = (answer : A) (v w : View K V S) → did v answer w → EndsThere (names answer) v w
+
+    -- A pass that has come back may be sent so: guard and owner are of this memory, and have these numbers.
+    pub record IsSentOn (asks : View K V S → Type 0) (guard owner : MapCaller K V S) (name guards owns : ℕ) (v : View K V S) : Type 0 where
+      pub memory : guard.blocks.now.words.id.views_name ≡ name
+      pub one : owner.blocks.now ≡ guard.blocks.now
+      pub guards : guard.seat.id ≡ guards
+      pub owns : owner.seat.id ≡ owns
+      pub back : IsBack v
+      pub may : MayDoOn asks guard owner v
+      pub ends : AllEndThere
+
+module _ {K V S : Type 0} (same : K → K → Bool) (hash : S → K → ℕ) (guard owner : MapCaller K V S) where
   -- it is the pair of this word at which the seat of this number has looked, as it is in the memory while that one knows this, and both others what they know
-  abbrev pub IsLentOn : (guard owner : MapCaller K V S) → ℕ → View K V S → ℕ → K × V → Type 0
-  IsLentOn guard owner i knew word pair =
+  abbrev pub IsLentOn : ℕ → View K V S → ℕ → K × V → Type 0
+  IsLentOn i knew word pair =
       (shown_in knew.held (block_in word) ≡ Some (Pair pair.0 pair.1))
       × IsValueBy (Holds same hash guard.blocks.now.words.fixed) i knew guard.seat.id guard.seat.view owner.seat.id owner.seat.view (block_in word) (Pair pair.0 pair.1)
 
-  -- the pair of this word is lent, if there is one
-  abbrev pub IsLentIf : (guard owner : MapCaller K V S) → View K V S → Option ℕ → Option (K × V) → Type 0
-  IsLentIf guard owner knew None None = Unit {0}
-  IsLentIf guard owner knew (Some word) (Some pair) = (i : ℕ) × IsLentOn guard owner i knew word pair
-  IsLentIf guard owner knew word pair = ⊥
+  -- the pair of this word is lent, where there is one
+  abbrev pub IsLentIf : View K V S → Option ℕ → Option (K × V) → Type 0
+  IsLentIf knew None None = Unit {0}
+  IsLentIf knew (Some word) (Some pair) = (i : ℕ) × IsLentOn i knew word pair
+  IsLentIf knew word pair = ⊥
+
+  -- It has done something so, has answered this, and the pairs that the answer names are lent.
+  pub record HasLent {A : Type 0} (did : View K V S → A → View K V S → Type 0) (names : A → Names) (answer : A) (gone there : Option (K × V)) (v w : View K V S) : Type 0 where
+    pub on : HasDoneOn (λ x y. did x answer y) guard owner v w
+    pub gone : IsLentIf on.knew (names answer).0 gone
+    pub there : IsLentIf on.knew (names answer).1 there

@@ -1,11 +1,10 @@
 //! A pass does something with the map of an owner, within the section of a guard: both are lent for that, and so are the pairs that the answer names.
-ghost use Rattle.std.specs.Prelude.{◌≡◌, ℕ, Some, None, true};
-ghost use Rattle.threads_callers.specs.Loans.{EndsThere, HasDoneOn, HasLentOn, IsLentIf, IsWithin, MayDoOn};
+ghost use Rattle.std.specs.Prelude.{◌≡◌, ℕ, Some, IfSome, option_map};
+ghost use Rattle.threads_callers.specs.Loans.{AllEndThere, HasLent, IsLentIf, IsLentOn, IsSentOn, MayDoOn};
 ghost use Rattle.threads_callers.specs.Passing.{IsBack};
 ghost use Rattle.threads_errands.specs.Given.CallKindsKinds.{PairIsVisible};
-ghost use Rattle.threads_errands.specs.Given.ViewsDeclared.view.View.{View as AView};
+ghost use Rattle.threads_errands.specs.Given.ViewsDeclared.view.SeatWork.TheVariants.{Nothing as NoWork};
 ghost use Rattle.threads_errands.specs.Given.ViewsLooks.{shown_in};
-ghost use Rattle.threads_errands.specs.Given.ViewsRule.{Holds};
 
 use crate::caller::MapCaller;
 use crate::caller::pass::{MapPassSeat, MapReturning, Resorting};
@@ -42,7 +41,13 @@ fn pair_on<'g, 'a, K: Eq, V, S: Hashes<K>>(
     owner: &'g MapCaller<'a, K, V, S>,
     word: u64,
 ) -> (&'g K, &'g V)
+    requires own { seat.now.base ≡ guard.now.blocks.now.words.id.views_name }
+    requires one { owner.now.blocks.now ≡ guard.now.blocks.now }
+    requires under { (t : ℕ) × (seat.now.view.under ≡ Some (guard.now.seat.id, t)) }
+    requires map { owner.now.seat.view.own ≡ seat.now.view.map }
+    requires free { seat.now.view.work ≡ NoWork }
     requires shown { PairIsVisible (shown_in seat.now.view.held) word }
+    ensures { IsLentOn K.eq S.hash guard.now owner.now seat.now.id seat.now.view word (result.0.now, result.1.now) }
 {
     leanings_begin::<K, V, S>();
     let block = Link::block_of(word);
@@ -58,7 +63,15 @@ fn pair_if<'g, 'a, K: Eq, V, S: Hashes<K>>(
     guard: &'g MapCaller<'a, K, V, S>,
     owner: &'g MapCaller<'a, K, V, S>,
     named: Option<u64>,
-) -> Option<(&'g K, &'g V)> {
+) -> Option<(&'g K, &'g V)>
+    requires own { seat.now.base ≡ guard.now.blocks.now.words.id.views_name }
+    requires one { owner.now.blocks.now ≡ guard.now.blocks.now }
+    requires under { (t : ℕ) × (seat.now.view.under ≡ Some (guard.now.seat.id, t)) }
+    requires map { owner.now.seat.view.own ≡ seat.now.view.map }
+    requires free { seat.now.view.work ≡ NoWork }
+    requires shown { IfSome named (PairIsVisible (shown_in seat.now.view.held)) }
+    ensures { IsLentIf K.eq S.hash guard.now owner.now seat.now.view named (option_map (λ pair. (pair.0.now, pair.1.now)) result) }
+{
     let word = named?;
     Some(pair_on(seat, guard, owner, word))
 }
@@ -67,9 +80,12 @@ impl<'g, 'a, K: Eq, V, S: Hashes<K>, A: Naming, E: Errand<Node<K, V>, OfMaps<S>,
     ErrandWithTwo<Node<K, V>, OfMaps<S>> for OnLoan<'g, 'a, K, V, S, E> {
     type Answer = Done<'g, 'a, K, V, S, A>;
 
-    ghost asks = { λ f name fixed n u k o v. IsBack v };
+    ghost asks = { λ f name fixed n u k o v. (f.guard.now.blocks.now.words.fixed ≡ fixed)
+        × IsSentOn (λ x answer y. E.did f.errand fixed x answer y) A.names (λ x. E.asks f.errand fixed x) f.guard.now f.owner.now name n k v };
 
-    ghost did = { λ f fixed v answer w. IsBack w };
+    ghost did = { λ f fixed v done w. IsBack w
+        × HasLent K.eq S.hash f.guard.now f.owner.now (λ x answer y. E.did f.errand fixed x answer y) A.names done.answer
+            (option_map (λ pair. (pair.0.now, pair.1.now)) done.gone) (option_map (λ pair. (pair.0.now, pair.1.now)) done.there) v w };
 
     fn run(
         self,
@@ -109,6 +125,13 @@ impl<'a, K: Eq, V, S: Hashes<K>> MapCaller<'a, K, V, S> {
         pass: &mut MapPassSeat<K, V, S>,
         errand: E,
     ) -> Done<'g, 'a, K, V, S, A>
+        requires own { pass.old.seat.base ≡ self.now.blocks.now.words.id.views_name }
+        requires one { owner.now.blocks.now ≡ self.now.blocks.now }
+        requires may { MayDoOn (λ x. E.asks errand self.now.blocks.now.words.fixed x) self.now owner.now pass.old.seat.view }
+        requires ends { AllEndThere (λ x answer y. E.did errand self.now.blocks.now.words.fixed x answer y) A.names }
+        ensures own { pass.new.seat.base ≡ pass.old.seat.base }
+        ensures lent { HasLent K.eq S.hash self.now owner.now (λ x answer y. E.did errand self.now.blocks.now.words.fixed x answer y) A.names result.answer
+            (option_map (λ pair. (pair.0.now, pair.1.now)) result.gone) (option_map (λ pair. (pair.0.now, pair.1.now)) result.there) pass.old.seat.view pass.new.seat.view }
     {
         self.blocks.errand_with_two(
             &mut pass.seat,

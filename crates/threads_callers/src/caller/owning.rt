@@ -3,7 +3,8 @@ use crate::caller::MapCaller;
 use map_machines::NewMap;
 use map_tables::{Hashes, Node, Setting};
 use papaya_raw::machines::EndMap;
-use seize::{Settled, StepMachine};
+use seize::StepMachine;
+use seize::rows::Settled;
 use seize_blocks::{Blocks, Errand, Seat};
 use seize_words::Fault;
 use threads_errands::{Makes, OfMaps, Within};
@@ -29,7 +30,7 @@ impl<K: Eq + Drop, V: Drop, S: Hashes<K>> Errand<Node<K, V>, OfMaps<S>> for Ends
         let mut within = Within::new(blocks, seat, 0);
         loop {
             match machine.step(&mut within) {
-                Settled::Goes => {}
+                Settled::Goes | Settled::Waits => {}
                 Settled::Gave(value) => drop(value),
                 Settled::Done => return,
             }
