@@ -23,7 +23,7 @@ use Rattle.owner_facts.proofs.Given.FinishesEnds.OrdersOn.{back_same}
 use Rattle.owner_facts.proofs.Descends.Lists.{length_read}
 use Rattle.owner_facts.proofs.Descends.Points.{To, falls_at, joined_once}
 use Rattle.owner_facts.proofs.Maps.Ends.Lower.{lower_in_one}
-use Rattle.many_acts.specs.Lefts.{is_along, behind, along_ahead, places_ahead, left_at, left_of, Lessens, GetsOn}
+use Rattle.many_acts.specs.Lefts.{is_along, behind, along_ahead, places_ahead, left_at, left_of, Lessens, GetsOn, EndsGetOn}
 
 -- in a list in which none stands twice, what stands behind one of it
 behind_is : (x : ℕ) (before rest : List ℕ) → ((y : ℕ) → times y (before ++ x ∷ rest) ≤ 1) → behind x (before ++ x ∷ rest) ≡ rest
@@ -188,7 +188,7 @@ module _ {K V : Type 0} (same : K → K → Bool) (batch_size : ℕ) (w : World 
     lessens at.Frees q point point2 less = lower at.Frees q point2 (λ is l. none_less _ l) less
     lessens at.Over q point point2 less = absurd point
 
-    pub went : Steps Took value_at w.memory (end_map_plan f.machine) w2.memory (e, settled.Goes) → GetsOn {T = Node K V} f.machine (e, settled.Goes) (left_of f) (left_of g)
+    went : Steps Took value_at w.memory (end_map_plan f.machine) w2.memory (e, settled.Goes) → GetsOn {T = Node K V} f.machine (e, settled.Goes) (left_of f) (left_of g)
     went s = lessens f.machine.stands e.stands facts.facts.point facts2.facts.point (falls (e, settled.Goes) s)
 
   -- it has reclaimed a block
@@ -196,7 +196,7 @@ module _ {K V : Type 0} (same : K → K → Bool) (batch_size : ℕ) (w : World 
     abbrev then_f : Finishing K V
     then_f = record f { machine = e; back = f.back ++ b ∷ []; waits = waits }
 
-    pub gave : (value : Node K V) → Steps Took value_at w.memory (end_map_plan f.machine) w2.memory (e, settled.Gave value) → GetsOn f.machine (e, settled.Gave value) (left_of f) (left_of then_f)
+    gave : (value : Node K V) → Steps Took value_at w.memory (end_map_plan f.machine) w2.memory (e, settled.Gave value) → GetsOn f.machine (e, settled.Gave value) (left_of f) (left_of then_f)
     gave value s =
         let few = are_few same batch_size w2 i then_f facts2 e.stands facts2.facts.point in
         lower_in_one f.chart.past _ _ _ _ _ _ _ _ few.0 few.1 few.2 (inl (one_less (falls (e, settled.Gave value) s)))
@@ -206,3 +206,9 @@ module _ {K V : Type 0} (same : K → K → Bool) (batch_size : ℕ) (w : World 
 
         one_less : length f.back < length (back_of f.setting f.chart f.blocks facts.lists false) → blocks_ahead f (f.back ++ b ∷ []) < blocks_ahead f f.back
         one_less some = let long = length-append f.back (b ∷ []) in let is = all_is in omega (arith, some, long, is)
+
+pub ends_get_on : {K : Type 0} (V : Type 0) (same : K → K → Bool) (batch_size : ℕ) → EndsGetOn V same batch_size
+ends_get_on V same batch_size w w2 i f e waits facts = (
+  λ facts2 s. went same batch_size w i f facts w2 e waits facts2 s,
+  λ b value facts2 s. gave same batch_size w i f facts w2 e waits b facts2 value s,
+)

@@ -1,13 +1,18 @@
 -- How much is left of the end of a map, in two numbers that each step lowers: what is left of the list along which it goes, or else what is left of all the rest.
-use Rattle.std.specs.Prelude.{◌≡◌, ℕ, suc, ◌-◌, ◌<◌, ◌==◌, ◌&&◌, Bool, true, false, cond, if◌then◌else◌, List, [], ◌∷◌, length}
+use Rattle.std.specs.Prelude.{◌≡◌, ℕ, suc, ◌-◌, ◌<◌, ◌==◌, ◌&&◌, Bool, true, false, cond, if◌then◌else◌, List, [], ◌∷◌, ◌++◌, length}
+use Rattle.run_shows.specs.Given.SeizeWordsMem.{Took, value_at}
+use Rattle.run_shows.specs.Given.SeizeWordsPlan.{Steps}
 use Rattle.run_shows.specs.Given.SeizeWordsWord.{block_in}
 use Rattle.run_shows.specs.Given.SeizeDeclared.rows.settle.Settled.{Settled}
 use Rattle.run_shows.specs.Given.SeizeDeclared.rows.settle.Settled.TheVariants as settled
+use Rattle.run_shows.specs.Given.SeizeWorld.{World}
+use Rattle.run_shows.specs.Given.TablesDeclared.node.Node.{Node}
+use Rattle.run_shows.specs.Given.RawEndMap.{end_map_plan}
 use Rattle.run_shows.specs.Given.RawDeclared.machines.end_map.EndMap.{EndMap}
 use Rattle.run_shows.specs.Given.RawDeclared.machines.end_map.Ending.{Ending}
 use Rattle.run_shows.specs.Given.RawDeclared.machines.end_map.Ending.TheVariants as at
 use Rattle.owner_facts.specs.Descends.Numbers.{tables_ahead, blocks_ahead}
-use Rattle.owner_facts.specs.Given.FinishesEndings.{Finishing}
+use Rattle.owner_facts.specs.Given.FinishesEndings.{Finishing, FinishingFacts}
 use Rattle.owner_facts.specs.Maps.MeasuresEnds.{stage, in_one}
 
 -- it goes along a list that a table carries
@@ -47,3 +52,14 @@ abbrev pub GetsOn : {T : Type 0} → EndMap → EndMap × Settled T → ℕ × �
 GetsOn c (d, settled.Goes) before after = Lessens c.stands d.stands before after
 GetsOn c (d, settled.Gave value) before after = after.0 < before.0
 GetsOn c (d, _) before after = Unit {0}
+
+module _ {K : Type 0} (V : Type 0) (same : K → K → Bool) (batch_size : ℕ) where
+  -- The promise: so does each step of the end of a map, whether it goes on, or has reclaimed a block, in the world where it stands so then.
+  abbrev pub EndsGetOn : Type 0
+  EndsGetOn =
+      (w w2 : World (Node K V)) (i : ℕ) (f : Finishing K V) (e : EndMap) (waits : List ℕ) → FinishingFacts same batch_size w i f
+      → (FinishingFacts same batch_size w2 i (record f { machine = e; waits = waits }) → Steps Took value_at w.memory (end_map_plan f.machine) w2.memory (e, settled.Goes)
+      → GetsOn {T = Node K V} f.machine (e, settled.Goes) (left_of f) (left_of (record f { machine = e; waits = waits })))
+      × ((b : ℕ) (value : Node K V) → FinishingFacts same batch_size w2 i (record f { machine = e; back = f.back ++ b ∷ []; waits = waits })
+      → Steps Took value_at w.memory (end_map_plan f.machine) w2.memory (e, settled.Gave value)
+      → GetsOn f.machine (e, settled.Gave value) (left_of f) (left_of (record f { machine = e; back = f.back ++ b ∷ []; waits = waits })))
