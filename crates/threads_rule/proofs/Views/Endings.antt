@@ -43,8 +43,8 @@ use Rattle.threads_rule.specs.Views.Begun.{ending_own}
 use Rattle.threads_rule.specs.Views.Listed.{calls_of}
 use Rattle.threads_rule.specs.Views.Looks.{shown_in}
 use Rattle.threads_rule.specs.Views.Promises.{EndingsBegin, EndingsContinue}
-use Rattle.threads_rule.specs.Views.Rule.{MapsWorld, HasRow, HasEnding, DoesSo, KnowsMap, AreRuns, Fits, AreSo, Holds, KeepsFor, IsBy, IsFresh, IsIdle, IsSlot, Leans, caller_at, acts_in}
-use Rattle.threads_rule.specs.Views.Told.{told, observed_by, ended_after}
+use Rattle.threads_rule.specs.Views.Rule.{MapsWorld, HasRow, HasEnding, DoesSo, KnowsMap, AreRuns, Fits, AreSo, EndsNone, IsOfCall, AllHeld, Holds, KeepsFor, IsBy, IsFresh, IsIdle, IsSlot, Leans, caller_at, acts_in}
+use Rattle.threads_rule.specs.Views.Told.{told, observed_by, end_after, ended_after}
 use Rattle.threads_rule.specs.declared.view.BegunCall.{BegunCall}
 use Rattle.threads_rule.specs.declared.view.Map.{Map}
 use Rattle.threads_rule.specs.declared.view.View.{View}
@@ -53,10 +53,11 @@ use Rattle.threads_rule.specs.declared.view.SeatWork.TheVariants.{Nothing, Calls
 use Rattle.threads_rule.proofs.Views.Knows.{knows_rests}
 use Rattle.threads_rule.proofs.Views.Leaves.{Leaves, Lasts, own_idle, map_on, all_last}
 use Rattle.threads_rule.proofs.Views.Listed.{numbered_on}
-use Rattle.threads_rule.proofs.Views.Looked.{Made, may_op}
+use Rattle.threads_rule.proofs.Views.Looked.{AllLooked, Made, may_op}
 use Rattle.threads_rule.proofs.Views.Moved.{scene_of, all_stand, are_so, KnowsThen, Moved, knows_alike, same_slot, moved}
 use Rattle.threads_rule.proofs.Views.Quiet.{there, held_is_linked}
 use Rattle.threads_rule.proofs.Views.Ran.{AreNoRows, no_rows_pass}
+use Rattle.threads_rule.proofs.Views.Tables.{ComesTo, end_sees}
 use Rattle.threads_rule.proofs.Views.Taking.{ends_keep, ends_keep_made, ends_keep_handed}
 use Rattle.threads_rule.proofs.Views.Whose.{Seated, whose}
 use Rattle.seize_words.proofs.General.{same_some}
@@ -223,7 +224,7 @@ module _ {K V S : Type 0} (same : K → K → Bool) (hash : S → K → ℕ) (fi
   begins : Goes (Holds same hash fixed) KeepsFor s s.memory id (λ x. x ≡ w)
   begins =
       moved same hash fixed s h id v at_id act may n led.3 s.memory w go
-      (record { own = ((λ a k. 0), tt); others = λ j ne theirs. refl; its = λ are. are; newest = λ other on. absurd (cc on); aside = λ j ne theirs. refl; seen = λ before b x none. absurd (cc none) })
+      (record { own = ((λ a k. 0), tt); others = λ j ne theirs. refl; its = λ are. are; newest = λ other on. absurd (cc on); aside = λ j ne theirs. refl; seen = λ before free b x none. absurd (cc none) })
       (λ x. x ≡ w) refl
 
 -- what an end does is nobody's row
@@ -356,7 +357,7 @@ module _ {K V S : Type 0} (same : K → K → Bool) (hash : S → K → ℕ) (fi
       its_row = ap (λ (f : ℕ → Row). f me) did.spares.rows ∙ does.2
 
       goes_by : (x : View K V S) (so_told : View K V S → Type 0) → stage ≡ n2 → x.slot ≡ v.slot → x.under ≡ v.under → x.map ≡ v.map → x.by ≡ v.by → x.own ≡ v.own → x.calls ≡ v.calls
-          → ((other : Machine K V K) → x.work ≡ Calls other → ⊥) → x.held ≡ [] → Fits same hash n2 id x → so_told x → Goes (Holds same hash fixed) KeepsFor s m2 id so_told
+          → ((other : Machine K V K) → x.work ≡ Calls other → ⊥) → (EndsNone x.work → (b : ℕ) (y : Node K V) → shown_in x.held b ≡ Some y → ⊥) → Fits same hash n2 id x → so_told x → Goes (Holds same hash fixed) KeepsFor s m2 id so_told
       goes_by x so_told comes slot_is under_is map_is by_is own_is calls_are no_calls none own is =
           moved same hash fixed s h id v at_id (StepsEnding me granted.0) step_may n2 comes m2 x
           (record {
@@ -381,7 +382,7 @@ module _ {K V S : Type 0} (same : K → K → Bool) (hash : S → K → ℕ) (fi
             its = λ are. subst (λ (runs : List (BegunCall K V)). AreRuns same hash (calls_of id s.world.doings h.reached.1 []) runs) (sym calls_are) are;
             newest = λ other on. absurd (no_calls other on);
             aside = λ j ne theirs. refl;
-            seen = λ before b y shown. (let some = sym (ap (λ (l : List (ℕ × Node K V)). shown_in l b) none) ∙ shown in absurd (cc some));
+            seen = λ before free b y shown. absurd (none free b y shown);
           }) so_told is
 
       map_still : KnowsMap same hash n2 v.map
@@ -393,13 +394,36 @@ module _ {K V S : Type 0} (same : K → K → Bool) (hash : S → K → ℕ) (fi
       its_idle : (t : ℕ) → IsSlot t → t ≢ place_now → IsIdle n2 (caller_at id t)
       its_idle = own_idle same hash scene_now n2 id place_now fits_now.slot fixed.batch_size None step_leaves fits_now.idle
 
+    -- what it has looked at is the table to which it comes
+    abbrev HasLooked : Settled (Node K V) → List (ℕ × Node K V) → Type 0
+    HasLooked told looks = AllLooked scene_now.world.memory (end_map_plan {K = K} {V = V} machine) m2 (step_led.3, told) looks
+
+    comes_to : (told : Settled (Node K V)) (b : ℕ) → ComesTo b (step_led.3, told) → IsOfCall same hash (end_after {S = S} step_led.3 told) b
+    comes_to settled.Done b comes = absurd comes
+    comes_to _ b comes = comes
+
+    held_then : (it : Option (Finishing K V)) (told : Settled (Node K V)) (looks : List (ℕ × Node K V)) → HasLooked told looks → AllHeld same hash (n2 it) v.under v.slot v.map (end_after step_led.3 told) looks
+    held_then it told [] seen = tt
+    held_then it told (look ∷ looks) (saw, there, more) = (
+      (
+        ap (λ (x : Mem (Node K V)). value_at x look.0) (did.memory ∙ sym memory_is) ∙ there,
+        inr (comes_to told look.0 (end_sees look.0 scene_now.world.memory m2 machine (step_led.3, told) saw)),
+      ),
+      held_then it told looks more,
+    )
+
+    none_looked : (looks : List (ℕ × Node K V)) → HasLooked settled.Done looks → (b : ℕ) (x : Node K V) → shown_in looks b ≡ Some x → ⊥
+    none_looked [] seen b x none = cc none
+    none_looked (look ∷ looks) (saw, there, more) b x is = end_sees look.0 scene_now.world.memory m2 machine (step_led.3, settled.Done) saw
+
     -- the end goes on
     goes_on : (so_told : View K V S → Type 0) (next : Finishing K V) → next.machine ≡ step_led.3 → stage ≡ n2 (Some next)
-        → so_told record { slot = v.slot; under = v.under; map = v.map; by = v.by; own = v.own; work = Ends step_led.3; looks = made.looks; held = []; began = v.began; calls = v.calls }
+        → AllHeld same hash (n2 (Some next)) v.under v.slot v.map (Ends step_led.3) made.looks
+        → so_told record { slot = v.slot; under = v.under; map = v.map; by = v.by; own = v.own; work = Ends step_led.3; looks = made.looks; held = made.looks; began = v.began; calls = v.calls }
         → Goes (Holds same hash fixed) KeepsFor s m2 id so_told
-    goes_on so_told next its came is =
-        goes_by (Some next) (record { slot = v.slot; under = v.under; map = v.map; by = v.by; own = v.own; work = Ends step_led.3; looks = made.looks; held = []; began = v.began; calls = v.calls }) so_told came
-        refl refl refl refl refl refl (λ other on. cc on) refl
+    goes_on so_told next its came held is =
+        goes_by (Some next) (record { slot = v.slot; under = v.under; map = v.map; by = v.by; own = v.own; work = Ends step_led.3; looks = made.looks; held = made.looks; began = v.began; calls = v.calls }) so_told came
+        refl refl refl refl refl refl (λ other on. cc on) (λ none. absurd none)
         (record {
           slot = fits_now.slot;
           aside = fits_now.aside;
@@ -407,19 +431,19 @@ module _ {K V S : Type 0} (same : K → K → Bool) (hash : S → K → ℕ) (fi
           map = map_still (Some next);
           own = own_still (Some next);
           only = tt;
-          held = tt;
+          held = held;
           pair = tt;
           idle = its_idle (Some next);
         })
         is
 
     by : (so_told : View K V S → Type 0) (end : Settled (Node K V)) → so_told (ended_after v made.looks step_led.3 end) → EndingCame same hash fixed.batch_size fixed.roots slot_of scene_now me d did.w2 did.deed step_led.3 stage end
-        → Goes (Holds same hash fixed) KeepsFor s m2 id so_told
-    by so_told settled.Goes is came = goes_on so_told _ refl came.1 is
-    by so_told settled.Waits is came = absurd came
-    by so_told (settled.Gave value) is (b, was, taken, came) = goes_on so_told _ refl came is
-    by so_told settled.Done is came =
-        goes_by None (ended_after v made.looks step_led.3 settled.Done) so_told came.2 refl refl refl refl refl refl (λ other on. cc on) refl
+        → HasLooked end made.looks → Goes (Holds same hash fixed) KeepsFor s m2 id so_told
+    by so_told settled.Goes is came seen = goes_on so_told _ refl came.1 (held_then _ settled.Goes made.looks seen) is
+    by so_told settled.Waits is came seen = absurd came
+    by so_told (settled.Gave value) is (b, was, taken, came) seen = goes_on so_told _ refl came (held_then _ (settled.Gave value) made.looks seen) is
+    by so_told settled.Done is came seen =
+        goes_by None (ended_after v made.looks step_led.3 settled.Done) so_told came.2 refl refl refl refl refl refl (λ other on. cc on) (λ ends. none_looked made.looks seen)
         (record {
           slot = fits_now.slot;
           aside = fits_now.aside;
@@ -434,27 +458,22 @@ module _ {K V S : Type 0} (same : K → K → Bool) (hash : S → K → ℕ) (fi
           map = map_still None;
           own = own_still None;
           only = tt;
-          held = tt;
+          held = held_then None settled.Done made.looks seen;
           pair = tt;
           idle = its_idle None;
         })
         is
 
-    looks_same : (end : Settled (Node K V)) → (ended_after v made.looks step_led.3 end).looks ≡ made.looks
-    looks_same settled.Goes = refl
-    looks_same settled.Waits = refl
-    looks_same (settled.Gave value) = refl
-    looks_same settled.Done = refl
+    abbrev Comes : EndMap × Settled (Node K V) → Type 0
+    Comes e = FollowsBy (shown_in made.looks) (end_map_plan {K = K} {V = V} machine) out e
 
     goes : (op : Op (Node K V)) → Goes (Holds same hash fixed) KeepsFor s m2 id (told same hash v op out)
     goes op =
         by (told same hash v op out) step_led.4
-        (subst (λ (k : SeatWork K V S). observed_by same hash v v.map k op out (ended_after v made.looks step_led.3 step_led.4)) (sym works) (
-          (step_led.3, step_led.4),
-          subst (λ (l : List (ℕ × Node K V)). FollowsBy (shown_in l) (end_map_plan {K = K} {V = V} machine) out (step_led.3, step_led.4)) (sym (looks_same step_led.4))
-              (subst (λ (e : EndMap × Settled (Node K V)). FollowsBy (shown_in made.looks) (end_map_plan {K = K} {V = V} machine) out e) end_is made.follows),
-          ap (λ (l : List (ℕ × Node K V)). ended_after v l step_led.3 step_led.4) (sym (looks_same step_led.4)),
-        )) step_led.8
+        (subst (λ (k : SeatWork K V S). observed_by same hash v v.map k op out (ended_after v made.looks step_led.3 step_led.4)) (sym works)
+        ((step_led.3, step_led.4), subst Comes end_is made.follows, refl, made.may))
+        step_led.8
+        (subst (λ (e : EndMap × Settled (Node K V)). AllLooked scene_now.world.memory (end_map_plan {K = K} {V = V} machine) m2 e made.looks) end_is made.seen)
 
 module _ {K S : Type 0} (V : Type 0) (same : K → K → Bool) (hash : S → K → ℕ) where
   pub endings_begin : EndingsBegin V same hash

@@ -20,7 +20,7 @@ use Rattle.seize_views.specs.Views.Rows.{use_of}
 use Rattle.seize_views.specs.declared.view.Fixed.{Fixed}
 use Rattle.seize_views.proofs.Views.Lists.{there, elsewhere}
 use Rattle.threads_rule.specs.Views.Listed.{Called, calls_then, calls_of, seen_then, seen_of, AreNumbered, IsItsOwn, IsNewest}
-use Rattle.threads_rule.specs.Views.Rule.{MapsWorld, IsSlot, IsIdle, KnowsMap, IsOfMap, IsOwner, AreApart, IsBy, Fits, AreSo, KnowsRow, AreRuns, HasSeen, Holds, KeepsFor, IsLeant, LeansOn, LeansUnder, Leans, caller_at, acts_in, section_of, place_of, runs_of, IsFresh}
+use Rattle.threads_rule.specs.Views.Rule.{MapsWorld, IsSlot, IsIdle, KnowsMap, IsOfMap, IsOwner, AreApart, IsBy, Fits, AreSo, KnowsRow, AreRuns, EndsNone, HasSeen, Holds, KeepsFor, IsLeant, LeansOn, LeansUnder, Leans, caller_at, acts_in, section_of, place_of, runs_of, IsFresh}
 use Rattle.threads_rule.specs.declared.view.BegunCall.{BegunCall}
 use Rattle.threads_rule.specs.declared.view.Map.{Map}
 use Rattle.threads_rule.specs.declared.view.View.{View}
@@ -94,7 +94,7 @@ module _ {K V S : Type 0} (same : K → K → Bool) (hash : S → K → ℕ) (fi
     pub its : AreRuns same hash calls v.calls → AreRuns same hash (calls_then id (Does act) told calls) w.calls
     pub newest : (machine : Machine K V K) → w.work ≡ Calls machine → IsNewest (caller_at id (acts_in w.under w.slot)) (calls_then id (Does act) told calls)
     pub aside : (j : ℕ) → j ≢ id → (theirs : Option (ℕ × Mem (Node K V))) → seen_then j (Does act) n.world.memory theirs ≡ theirs
-    pub seen : (before : Option (ℕ × Mem (Node K V)))
+    pub seen : (before : Option (ℕ × Mem (Node K V))) → EndsNone w.work
         → HasSeen (caller_at id (acts_in w.under w.slot)) (calls_then id (Does act) told calls) (seen_then id (Does act) n.world.memory before) w.held
 
   -- the slot that it had is no other seat's
@@ -125,8 +125,11 @@ module _ {K V S : Type 0} (same : K → K → Bool) (hash : S → K → ℕ) (fi
     before : (j : ℕ) → j ≢ id → view_of s j ≡ slice_get (slice_set s.views id w) j
     before j ne = sym (elsewhere s.views id j w ne)
 
+    all_then : AllStand same hash fixed.batch_size fixed.roots slot_of n
+    all_then = subst (λ (x : Scene K V). AllStand same hash fixed.batch_size fixed.roots slot_of x) comes led_to.0.1
+
     came : CameAbout fixed.batch_size n.world
-    came = subst (λ (x : Scene K V). CameAbout fixed.batch_size x.world) comes led_to.0.1.makings.standing.came
+    came = all_then.makings.standing.came
 
     -- on whom somebody leans is not the one who has left its slot, and is within its section still
 
@@ -191,7 +194,7 @@ module _ {K V S : Type 0} (same : K → K → Bool) (hash : S → K → ℕ) (fi
         (not_mine j x ne at_j) (within j x at_j)
         (λ b y is of.
         let f = are_so.seats j x at_j in
-        of_call_lasts same hash fixed.batch_size fixed.roots scene_of n all_stand came (caller_at id go.place) go.mine go.leaves (caller_at j (acts_in x.under x.slot))
+        of_call_lasts same hash fixed.batch_size fixed.roots scene_of n all_stand all_then (caller_at id go.place) go.mine go.leaves (caller_at j (acts_in x.under x.slot))
         (λ e. ne (seat_apart j id (acts_in x.under x.slot) go.place f.slot go.its_slot e)) b y is x.under x.slot x.map x.work f.does f.map of)
         (map_lasts j x ne at_j x.map refl) (own_lasts j x ne at_j x.own refl) (are_so.seats j x at_j)
 
@@ -404,19 +407,19 @@ module _ {K V S : Type 0} (same : K → K → Bool) (hash : S → K → ℕ) (fi
     sees : (j : ℕ) → seen_now j ≡ seen_then j (Does act) n.world.memory (seen_before j)
     sees j = led_then.1 j None ∙ ap (λ (x : Scene K V). seen_then {S = S} j (Does act) x.world.memory (seen_before j)) comes
 
-    seen : (j : ℕ) (x : View K V S) → slice_get (slice_set s.views id w) j ≡ Some x → (j ≡ id) ⊎ (j ≢ id)
+    seen : (j : ℕ) (x : View K V S) → slice_get (slice_set s.views id w) j ≡ Some x → EndsNone x.work → (j ≡ id) ⊎ (j ≢ id)
         → HasSeen (caller_at j (acts_in x.under x.slot)) (calls_of j (s.world.doings ++ Does act ∷ []) led_to.1 []) (seen_now j) x.held
-    seen j x at (inl e) =
+    seen j x at free (inl e) =
         let is = same_some w x (sym (here j e) ∙ at) in
         subst (λ (o : Option (ℕ × Mem (Node K V))). HasSeen (caller_at j (acts_in x.under x.slot)) (calls_of j (s.world.doings ++ Does act ∷ []) led_to.1 []) o x.held) (sym (sees j))
         (subst (λ (c : List (Called K V)). HasSeen (caller_at j (acts_in x.under x.slot)) c (seen_then j (Does act) n.world.memory (seen_before j)) x.held) (sym (more j))
         (subst (λ (a : ℕ). HasSeen (caller_at a (acts_in x.under x.slot)) (calls_then a (Does act) told (calls_before a)) (seen_then a (Does act) n.world.memory (seen_before a)) x.held) (sym e)
         (subst (λ (y : View K V S). HasSeen (caller_at id (acts_in y.under y.slot)) (calls_then id (Does act) told (calls_before id)) (seen_then id (Does act) n.world.memory (seen_before id)) y.held) is
-        (adds.seen (seen_before id)))))
-    seen j x at (inr ne) =
+        (adds.seen (seen_before id) (subst (λ (y : View K V S). EndsNone y.work) (sym is) free)))))
+    seen j x at free (inr ne) =
         subst (λ (o : Option (ℕ × Mem (Node K V))). HasSeen (caller_at j (acts_in x.under x.slot)) (calls_of j (s.world.doings ++ Does act ∷ []) led_to.1 []) o x.held)
         (sym (sees j ∙ adds.aside j ne (seen_before j)))
-        (subst (λ (c : List (Called K V)). HasSeen (caller_at j (acts_in x.under x.slot)) c (seen_before j) x.held) (sym (more j ∙ adds.others j ne (calls_before j))) (h.seen j x (before j ne ∙ at)))
+        (subst (λ (c : List (Called K V)). HasSeen (caller_at j (acts_in x.under x.slot)) c (seen_before j) x.held) (sym (more j ∙ adds.others j ne (calls_before j))) (h.seen j x (before j ne ∙ at) free))
 
     pub moved : (so : View K V S → Type 0) → so w → Goes (Holds same hash fixed) KeepsFor s m id so
     moved so is = (
@@ -442,7 +445,7 @@ module _ {K V S : Type 0} (same : K → K → Bool) (hash : S → K → ℕ) (fi
         own = all_more (IsItsOwn hash) s.world.doings (Does act) h.own adds.own;
         calls = λ j. calls j (cases_eq j id);
         newest = λ j x machine at works. newest j x machine at works (cases_eq j id);
-        seen = λ j x at. seen j x at (cases_eq j id);
+        seen = λ j x at free. seen j x at free (cases_eq j id);
       },
       λ j k b u o ne ne2 at at2 keeps. kept j k b u o ne ne2 at at2 keeps,
       is,

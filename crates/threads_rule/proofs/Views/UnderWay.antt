@@ -461,7 +461,7 @@ module _ {K V S : Type 0} (same : K → K → Bool) (hash : S → K → ℕ) (fi
             (newest_runs same hash i came.progress calls v.calls (h.newest id v machine at_id works) are));
         newest = λ other on. its_newest;
         aside = λ j ne theirs. ap (λ (q : Bool). if q then Some (i, n.world.memory) else theirs) (is_other j id place fits.slot ne);
-        seen = λ before b x shown. (
+        seen = λ before free b x shown. (
           n.world.memory,
           ap (λ (q : Bool). if q then Some (i, n.world.memory) else before) (is_its id place fits.slot),
           its_newest,

@@ -36,7 +36,7 @@ use Rattle.seize_views.specs.declared.view.SlotView.{SlotView}
 use Rattle.seize_views.specs.declared.view.SlotView.TheVariants as slot_view
 use Rattle.threads_rule.specs.Views.Begun.{machine_for}
 use Rattle.threads_rule.specs.Views.Listed.{Called, plain, calls_of, seen_of, AreNumbered, IsItsOwn, IsNewest}
-use Rattle.threads_rule.specs.Views.Looks.{shown_in}
+use Rattle.threads_rule.specs.Views.Looks.{shown_in, IsAtTable}
 use Rattle.threads_rule.specs.Views.Reclaims.{IsNextOf}
 use Rattle.threads_rule.specs.Views.Told.{pair_in}
 use Rattle.threads_rule.specs.declared.view.Map.{Map}
@@ -198,6 +198,11 @@ module _ {K V : Type 0} where
   HasSeen i calls seen looks =
       (b : ℕ) (x : Node K V) → shown_in looks b ≡ Some x → (memory : Mem (Node K V)) × (seen ≡ Some (i, memory)) × IsNewest i calls × (value_at memory b ≡ Some x)
 
+  -- it ends no map
+  abbrev pub EndsNone : {S : Type 0} → SeatWork K V S → Type 0
+  EndsNone (Ends machine) = ⊥
+  EndsNone work = Unit {0}
+
   -- no map has this number or a later one, nor one that is being made
   abbrev pub IsFresh : Scene K V → ℕ → Type 0
   IsFresh s k = ((m : ℕ) → k ≤ m → s.maps m ≡ None) × ((i : ℕ) (b : Beginning K) → s.makers i ≡ Some b → b.map < k)
@@ -251,9 +256,10 @@ module _ {K V S : Type 0} (same : K → K → Bool) (hash : S → K → ℕ) whe
   abbrev pub IsInSection : Scene K V → Option (ℕ × ℕ) → SlotView (Node K V) → Option (Map S) → ℕ → Type 0
   IsInSection s under slot map b = (t : ℕ) × (section_of under slot ≡ Some t) × (holds t b s.world.log ≡ true) × IsOfMap map b s.world
 
-  -- the call that is under way has it: as its own pair, or to reclaim it next, by a row of the collector
+  -- the call that is under way has it: as its own pair, or to reclaim it next, by a row of the collector; or the end of a map, which has come to this table
   abbrev pub IsOfCall : SeatWork K V S → ℕ → Type 0
   IsOfCall (Calls machine) b = IsOwnOf machine b ⊎ IsNextOf machine b
+  IsOfCall (Ends machine) b = IsAtTable machine machine.stands b
   IsOfCall work b = ⊥
 
   -- the block is there with this value, and why it lasts until the seat's next step
@@ -313,7 +319,7 @@ module _ {K V S : Type 0} (same : K → K → Bool) (hash : S → K → ℕ) whe
     pub own : AllByRecursion (IsItsOwn hash) s.world.doings
     pub calls : (j : ℕ) → AreRuns (calls_of j s.world.doings reached.1 []) (runs_of (view_of s j))
     pub newest : (j : ℕ) (v : View K V S) (machine : Machine K V K) → view_of s j ≡ Some v → v.work ≡ Calls machine → IsNewest (caller_at j (acts_in v.under v.slot)) (calls_of j s.world.doings reached.1 [])
-    pub seen : (j : ℕ) (v : View K V S) → view_of s j ≡ Some v
+    pub seen : (j : ℕ) (v : View K V S) → view_of s j ≡ Some v → EndsNone v.work
         → HasSeen (caller_at j (acts_in v.under v.slot)) (calls_of j s.world.doings reached.1 [])
         (seen_of V same hash fixed.batch_size fixed.roots slot_of course j s.world.doings (nothing_done V same hash fixed.batch_size fixed.roots slot_of course) reached led None) v.held
 
