@@ -136,6 +136,7 @@ module _ {K V S : Type 0} (same : K → K → Bool) (hash : S → K → ℕ) (fi
         own = map_on same hash scene n id place fits.slot fixed.batch_size None leaves v.own (all_last same hash scene n id place fits.slot fixed.batch_size None leaves stand v.own) fits.own;
         only = subst (λ (x : Option (Map S)). LooksAside v.under x (Calls machine)) (sym knows) only;
         held = tt;
+        table = tt;
         pair =
             subst (λ (x : Option (Map S)). KnowsPair same hash n i x (Calls machine) runs) (sym knows)
             (λ x here. ap pair_of (same_some x u (sym here ∙ call_here scene.calls map.number i (Some u))) ∙ pair);
@@ -232,7 +233,7 @@ module _ {K V S : Type 0} (same : K → K → Bool) (hash : S → K → ℕ) (fi
       its = λ are. subst (λ (q : Bool). AreRuns same hash (if q then call ∷ before else before) (run ∷ v.calls)) (sym (is_its id place fits.slot)) (is_run, are);
       newest = λ other works. subst (λ (q : Bool). IsNewest i (if q then call ∷ before else before)) (sym (is_its id place fits.slot)) refl;
       aside = λ j ne theirs. refl;
-      seen = λ before free b x none. absurd (cc none);
+      seen = λ before b x none. absurd (cc none);
     }
 
     begins : Goes (Holds same hash fixed) KeepsFor s s.memory id (λ x. x ≡ calling v map machine)
@@ -282,7 +283,7 @@ module _ {K V S : Type 0} (same : K → K → Bool) (hash : S → K → ℕ) (fi
         (go place is told_led.3 (machine_replied machine reply).0 reply_is on
         (looks_aside_on v.under (Some map) machine (machine_replied machine reply).0 (replied_writes machine reply) (only_so machine works)) (TellsCall i map.number reply) v.calls
         (numbered_on s.world.doings (Does (TellsCall i map.number reply) ∷ []) 0 fresh.0 fresh.0 fresh.2 refl) its_pair)
-        (record { own = ((λ m k. 0), tt); others = λ j ne theirs. refl; its = λ are. are; newest = λ other on. h.newest id v machine at_id works; aside = λ j ne theirs. refl; seen = λ before free b x none. absurd (cc none) }) (λ x. x ≡ replied v machine reply) refl
+        (record { own = ((λ m k. 0), tt); others = λ j ne theirs. refl; its = λ are. are; newest = λ other on. h.newest id v machine at_id works; aside = λ j ne theirs. refl; seen = λ before b x none. absurd (cc none) }) (λ x. x ≡ replied v machine reply) refl
 
   -- its call is asked for its next pair
   module _ (machine : Machine K V K) (works : v.work ≡ Calls machine) where
@@ -315,7 +316,7 @@ module _ {K V S : Type 0} (same : K → K → Bool) (hash : S → K → ℕ) (fi
         (go place is (asked_on asked_led.0) (machine_asked machine).0 asked_is on
         (looks_aside_on v.under (Some map) machine (machine_asked machine).0 (asked_writes machine) (only_so machine works)) (AsksCall i map.number) v.calls
         (numbered_on s.world.doings (Does (AsksCall i map.number) ∷ []) 0 fresh.0 fresh.0 fresh.2 refl) asked_pair)
-        (record { own = ((λ m k. 0), tt); others = λ j ne theirs. refl; its = λ are. are; newest = λ other on. h.newest id v machine at_id works; aside = λ j ne theirs. refl; seen = λ before free b x none. absurd (cc none) }) (λ x. x ≡ asked v machine) refl
+        (record { own = ((λ m k. 0), tt); others = λ j ne theirs. refl; its = λ are. are; newest = λ other on. h.newest id v machine at_id works; aside = λ j ne theirs. refl; seen = λ before b x none. absurd (cc none) }) (λ x. x ≡ asked v machine) refl
 
 module _ {K S : Type 0} (V : Type 0) (same : K → K → Bool) (hash : S → K → ℕ) where
   pub calls_begin : CallsBegin V same hash

@@ -1,7 +1,7 @@
 -- The seat that owns a map begins to end it, where nobody leans on it; and an end goes on.
-use Rattle.std.specs.Prelude.{◌≢◌, ◌∷◌, Option, Some, None}
+use Rattle.std.specs.Prelude.{◌≢◌, ◌∷◌, ◌==◌, Option, Some, None, IsSome, if◌then◌else◌}
 use Rattle.std.specs.Option.{is_none}
-use Rattle.std.proofs.Common.{◌≡◌, ℕ, ◌≤◌, Bool, true, false, List, [], ◌⊎◌, inl, inr, refl, sym, subst, ap, ◌∙◌}
+use Rattle.std.proofs.Common.{◌≡◌, ℕ, ◌≤◌, Bool, true, false, List, [], ◌⊎◌, inl, inr, refl, sym, subst, ap, ◌∙◌, eqb-true}
 use Rattle.std.proofs.lemmas.Bool.{cases_eq}
 use Rattle.seize_words.specs.OneMemory.Mem.{Mem, Can, Took, value_at}
 use Rattle.seize_words.specs.OneMemory.Op.{Op, Out}
@@ -41,10 +41,10 @@ use Rattle.seize_views.specs.declared.view.SlotView.{SlotView}
 use Rattle.seize_views.specs.declared.view.SlotView.TheVariants as slot_view
 use Rattle.threads_rule.specs.Views.Begun.{ending_own}
 use Rattle.threads_rule.specs.Views.Listed.{calls_of}
-use Rattle.threads_rule.specs.Views.Looks.{shown_in}
-use Rattle.threads_rule.specs.Views.Promises.{EndingsBegin, EndingsContinue}
-use Rattle.threads_rule.specs.Views.Rule.{MapsWorld, HasRow, HasEnding, DoesSo, KnowsMap, AreRuns, Fits, AreSo, EndsNone, IsOfCall, AllHeld, Holds, KeepsFor, IsBy, IsFresh, IsIdle, IsSlot, Leans, caller_at, acts_in}
-use Rattle.threads_rule.specs.Views.Told.{told, observed_by, end_after, ended_after}
+use Rattle.threads_rule.specs.Views.Looks.{shown_in, MayFollow, IsAtTable}
+use Rattle.threads_rule.specs.Views.Promises.{EndingsBegin, EndingsContinue, EndingsAreShown}
+use Rattle.threads_rule.specs.Views.Rule.{MapsWorld, HasRow, HasEnding, DoesSo, KnowsMap, KnowsTable, AreRuns, Fits, AreSo, Holds, KeepsFor, IsBy, IsFresh, IsIdle, IsSlot, Leans, caller_at, acts_in}
+use Rattle.threads_rule.specs.Views.Told.{told, observed_by, ended_after}
 use Rattle.threads_rule.specs.declared.view.BegunCall.{BegunCall}
 use Rattle.threads_rule.specs.declared.view.Map.{Map}
 use Rattle.threads_rule.specs.declared.view.View.{View}
@@ -201,6 +201,7 @@ module _ {K V S : Type 0} (same : K → K → Bool) (hash : S → K → ℕ) (fi
       own = tt;
       only = tt;
       held = tt;
+      table = λ b x none. absurd (cc none);
       pair = tt;
       idle = own_idle same hash scene n id place fits.slot fixed.batch_size None leaves fits.idle;
     };
@@ -224,7 +225,7 @@ module _ {K V S : Type 0} (same : K → K → Bool) (hash : S → K → ℕ) (fi
   begins : Goes (Holds same hash fixed) KeepsFor s s.memory id (λ x. x ≡ w)
   begins =
       moved same hash fixed s h id v at_id act may n led.3 s.memory w go
-      (record { own = ((λ a k. 0), tt); others = λ j ne theirs. refl; its = λ are. are; newest = λ other on. absurd (cc on); aside = λ j ne theirs. refl; seen = λ before free b x none. absurd (cc none) })
+      (record { own = ((λ a k. 0), tt); others = λ j ne theirs. refl; its = λ are. are; newest = λ other on. absurd (cc on); aside = λ j ne theirs. refl; seen = λ before b x none. absurd (cc none) })
       (λ x. x ≡ w) refl
 
 -- what an end does is nobody's row
@@ -357,7 +358,7 @@ module _ {K V S : Type 0} (same : K → K → Bool) (hash : S → K → ℕ) (fi
       its_row = ap (λ (f : ℕ → Row). f me) did.spares.rows ∙ does.2
 
       goes_by : (x : View K V S) (so_told : View K V S → Type 0) → stage ≡ n2 → x.slot ≡ v.slot → x.under ≡ v.under → x.map ≡ v.map → x.by ≡ v.by → x.own ≡ v.own → x.calls ≡ v.calls
-          → ((other : Machine K V K) → x.work ≡ Calls other → ⊥) → (EndsNone x.work → (b : ℕ) (y : Node K V) → shown_in x.held b ≡ Some y → ⊥) → Fits same hash n2 id x → so_told x → Goes (Holds same hash fixed) KeepsFor s m2 id so_told
+          → ((other : Machine K V K) → x.work ≡ Calls other → ⊥) → x.held ≡ [] → Fits same hash n2 id x → so_told x → Goes (Holds same hash fixed) KeepsFor s m2 id so_told
       goes_by x so_told comes slot_is under_is map_is by_is own_is calls_are no_calls none own is =
           moved same hash fixed s h id v at_id (StepsEnding me granted.0) step_may n2 comes m2 x
           (record {
@@ -382,7 +383,7 @@ module _ {K V S : Type 0} (same : K → K → Bool) (hash : S → K → ℕ) (fi
             its = λ are. subst (λ (runs : List (BegunCall K V)). AreRuns same hash (calls_of id s.world.doings h.reached.1 []) runs) (sym calls_are) are;
             newest = λ other on. absurd (no_calls other on);
             aside = λ j ne theirs. refl;
-            seen = λ before free b y shown. absurd (none free b y shown);
+            seen = λ before b y shown. (let some = sym (ap (λ (l : List (ℕ × Node K V)). shown_in l b) none) ∙ shown in absurd (cc some));
           }) so_told is
 
       map_still : KnowsMap same hash n2 v.map
@@ -398,32 +399,34 @@ module _ {K V S : Type 0} (same : K → K → Bool) (hash : S → K → ℕ) (fi
     abbrev HasLooked : Settled (Node K V) → List (ℕ × Node K V) → Type 0
     HasLooked told looks = AllLooked scene_now.world.memory (end_map_plan {K = K} {V = V} machine) m2 (step_led.3, told) looks
 
-    comes_to : (told : Settled (Node K V)) (b : ℕ) → ComesTo b (step_led.3, told) → IsOfCall same hash (end_after {S = S} step_led.3 told) b
-    comes_to settled.Done b comes = absurd comes
-    comes_to _ b comes = comes
+    abbrev IsTable : Settled (Node K V) → ℕ → Type 0
+    IsTable told b = ComesTo {K = K} {V = V} b (step_led.3, told)
 
-    held_then : (it : Option (Finishing K V)) (told : Settled (Node K V)) (looks : List (ℕ × Node K V)) → HasLooked told looks → AllHeld same hash (n2 it) v.under v.slot v.map (end_after step_led.3 told) looks
-    held_then it told [] seen = tt
-    held_then it told (look ∷ looks) (saw, there, more) = (
-      (
-        ap (λ (x : Mem (Node K V)). value_at x look.0) (did.memory ∙ sym memory_is) ∙ there,
-        inr (comes_to told look.0 (end_sees look.0 scene_now.world.memory m2 machine (step_led.3, told) saw)),
-      ),
-      held_then it told looks more,
-    )
+    looked_at : (told : Settled (Node K V)) (looks : List (ℕ × Node K V)) → HasLooked told looks → (b : ℕ) (x : Node K V) → shown_in looks b ≡ Some x
+        → (value_at w2.memory b ≡ Some x) × IsTable told b
+    looked_at told [] seen b x none = absurd (cc none)
+    looked_at told (look ∷ looks) (saw, there, more) b x shown = by (b == look.0) refl shown
+      where
+        by : (k : Bool) → (b == look.0) ≡ k → (if k then Some look.1 else shown_in looks b) ≡ Some x → (value_at w2.memory b ≡ Some x) × IsTable told b
+        by false e is = looked_at told looks more b x is
+        by true e is =
+            let here = eqb-true b look.0 e in (
+              ap (value_at w2.memory) here ∙ ap (λ (y : Mem (Node K V)). value_at y look.0) (did.memory ∙ sym memory_is) ∙ there ∙ is,
+              subst (IsTable told) (sym here) (end_sees look.0 scene_now.world.memory m2 machine (step_led.3, told) saw),
+            )
 
-    none_looked : (looks : List (ℕ × Node K V)) → HasLooked settled.Done looks → (b : ℕ) (x : Node K V) → shown_in looks b ≡ Some x → ⊥
-    none_looked [] seen b x none = cc none
-    none_looked (look ∷ looks) (saw, there, more) b x is = end_sees look.0 scene_now.world.memory m2 machine (step_led.3, settled.Done) saw
+    none_looked : (looks : List (ℕ × Node K V)) → HasLooked settled.Done looks → looks ≡ []
+    none_looked [] seen = refl
+    none_looked (look ∷ looks) (saw, there, more) = absurd (end_sees look.0 scene_now.world.memory m2 machine (step_led.3, settled.Done) saw)
 
     -- the end goes on
     goes_on : (so_told : View K V S → Type 0) (next : Finishing K V) → next.machine ≡ step_led.3 → stage ≡ n2 (Some next)
-        → AllHeld same hash (n2 (Some next)) v.under v.slot v.map (Ends step_led.3) made.looks
-        → so_told record { slot = v.slot; under = v.under; map = v.map; by = v.by; own = v.own; work = Ends step_led.3; looks = made.looks; held = made.looks; began = v.began; calls = v.calls }
+        → ((b : ℕ) (x : Node K V) → shown_in made.looks b ≡ Some x → (value_at w2.memory b ≡ Some x) × IsAtTable step_led.3 step_led.3.stands b)
+        → so_told record { slot = v.slot; under = v.under; map = v.map; by = v.by; own = v.own; work = Ends step_led.3; looks = made.looks; held = []; began = v.began; calls = v.calls }
         → Goes (Holds same hash fixed) KeepsFor s m2 id so_told
-    goes_on so_told next its came held is =
-        goes_by (Some next) (record { slot = v.slot; under = v.under; map = v.map; by = v.by; own = v.own; work = Ends step_led.3; looks = made.looks; held = made.looks; began = v.began; calls = v.calls }) so_told came
-        refl refl refl refl refl refl (λ other on. cc on) (λ none. absurd none)
+    goes_on so_told next its came table is =
+        goes_by (Some next) (record { slot = v.slot; under = v.under; map = v.map; by = v.by; own = v.own; work = Ends step_led.3; looks = made.looks; held = []; began = v.began; calls = v.calls }) so_told came
+        refl refl refl refl refl refl (λ other on. cc on) refl
         (record {
           slot = fits_now.slot;
           aside = fits_now.aside;
@@ -431,7 +434,8 @@ module _ {K V S : Type 0} (same : K → K → Bool) (hash : S → K → ℕ) (fi
           map = map_still (Some next);
           own = own_still (Some next);
           only = tt;
-          held = held;
+          held = tt;
+          table = table;
           pair = tt;
           idle = its_idle (Some next);
         })
@@ -439,11 +443,11 @@ module _ {K V S : Type 0} (same : K → K → Bool) (hash : S → K → ℕ) (fi
 
     by : (so_told : View K V S → Type 0) (end : Settled (Node K V)) → so_told (ended_after v made.looks step_led.3 end) → EndingCame same hash fixed.batch_size fixed.roots slot_of scene_now me d did.w2 did.deed step_led.3 stage end
         → HasLooked end made.looks → Goes (Holds same hash fixed) KeepsFor s m2 id so_told
-    by so_told settled.Goes is came seen = goes_on so_told _ refl came.1 (held_then _ settled.Goes made.looks seen) is
+    by so_told settled.Goes is came seen = goes_on so_told _ refl came.1 (looked_at settled.Goes made.looks seen) is
     by so_told settled.Waits is came seen = absurd came
-    by so_told (settled.Gave value) is (b, was, taken, came) seen = goes_on so_told _ refl came (held_then _ (settled.Gave value) made.looks seen) is
+    by so_told (settled.Gave value) is (b, was, taken, came) seen = goes_on so_told _ refl came (looked_at (settled.Gave value) made.looks seen) is
     by so_told settled.Done is came seen =
-        goes_by None (ended_after v made.looks step_led.3 settled.Done) so_told came.2 refl refl refl refl refl refl (λ other on. cc on) (λ ends. none_looked made.looks seen)
+        goes_by None (ended_after v made.looks step_led.3 settled.Done) so_told came.2 refl refl refl refl refl refl (λ other on. cc on) refl
         (record {
           slot = fits_now.slot;
           aside = fits_now.aside;
@@ -458,22 +462,33 @@ module _ {K V S : Type 0} (same : K → K → Bool) (hash : S → K → ℕ) (fi
           map = map_still None;
           own = own_still None;
           only = tt;
-          held = held_then None settled.Done made.looks seen;
+          held = tt;
+          table = tt;
           pair = tt;
           idle = its_idle None;
         })
         is
 
-    abbrev Comes : EndMap × Settled (Node K V) → Type 0
-    Comes e = FollowsBy (shown_in made.looks) (end_map_plan {K = K} {V = V} machine) out e
+    looks_same : (end : Settled (Node K V)) → HasLooked end made.looks → (ended_after v made.looks step_led.3 end).looks ≡ made.looks
+    looks_same settled.Goes seen = refl
+    looks_same settled.Waits seen = refl
+    looks_same (settled.Gave value) seen = refl
+    looks_same settled.Done seen = sym (none_looked made.looks seen)
+
+    seen_then : HasLooked step_led.4 made.looks
+    seen_then = subst (λ (e : EndMap × Settled (Node K V)). AllLooked scene_now.world.memory (end_map_plan {K = K} {V = V} machine) m2 e made.looks) end_is made.seen
 
     goes : (op : Op (Node K V)) → Goes (Holds same hash fixed) KeepsFor s m2 id (told same hash v op out)
     goes op =
+        let same_looks = sym (looks_same step_led.4 seen_then) in
         by (told same hash v op out) step_led.4
-        (subst (λ (k : SeatWork K V S). observed_by same hash v v.map k op out (ended_after v made.looks step_led.3 step_led.4)) (sym works)
-        ((step_led.3, step_led.4), subst Comes end_is made.follows, refl, made.may))
-        step_led.8
-        (subst (λ (e : EndMap × Settled (Node K V)). AllLooked scene_now.world.memory (end_map_plan {K = K} {V = V} machine) m2 e made.looks) end_is made.seen)
+        (subst (λ (k : SeatWork K V S). observed_by same hash v v.map k op out (ended_after v made.looks step_led.3 step_led.4)) (sym works) (
+          (step_led.3, step_led.4),
+          subst (λ (l : List (ℕ × Node K V)). FollowsBy (shown_in l) (end_map_plan {K = K} {V = V} machine) out (step_led.3, step_led.4)) same_looks
+              (subst (λ (e : EndMap × Settled (Node K V)). FollowsBy (shown_in made.looks) (end_map_plan {K = K} {V = V} machine) out e) end_is made.follows),
+          ap (λ (l : List (ℕ × Node K V)). ended_after v l step_led.3 step_led.4) same_looks,
+          subst (λ (l : List (ℕ × Node K V)). MayFollow (shown_in l) (end_map_plan {K = K} {V = V} machine) out) same_looks made.may,
+        )) step_led.8 seen_then
 
 module _ {K S : Type 0} (V : Type 0) (same : K → K → Bool) (hash : S → K → ℕ) where
   pub endings_begin : EndingsBegin V same hash
@@ -486,3 +501,11 @@ module _ {K S : Type 0} (V : Type 0) (same : K → K → Bool) (hash : S → K �
         subst (λ (x : Mem (Node K V)). Can x op) (sym is) step.0,
         λ out m2 took. goes same hash fixed s h id v at_id machine works m2 out (step.1 out m2 (subst (λ (x : Mem (Node K V)). Took x op out m2) is took)) op,
       )
+
+  pub endings_are_shown : EndingsAreShown V same hash
+  endings_are_shown fixed id b v machine x works shown = (λ t h at. subst IsSome (sym (here t h at)) refl, λ y of. same_some y x (sym of.3 ∙ here of.0 of.1 of.2))
+    where
+      here : (t : State (Node K V) (View K V S) (MapsWorld K V S)) → Holds same hash fixed t → view_of t id ≡ Some v → value_at t.memory b ≡ Some x
+      here t h at =
+          ap (λ (m : Mem (Node K V)). value_at m b) h.so.memory
+          ∙ (subst (λ (k : SeatWork K V S). KnowsTable same hash t.world.scene k v.looks) works (h.so.seats id v at).table b x shown).0

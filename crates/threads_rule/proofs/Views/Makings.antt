@@ -153,6 +153,7 @@ module _ {K V S : Type 0} (same : K → K → Bool) (hash : S → K → ℕ) (fi
         own = map_on same hash scene n id place fits.slot fixed.batch_size None leaves v.own (all_last same hash scene n id place fits.slot fixed.batch_size None leaves stand v.own) fits.own;
         only = tt;
         held = tt;
+        table = tt;
         pair = tt;
         idle = own_idle same hash scene n id place fits.slot fixed.batch_size None leaves fits.idle;
       };
@@ -177,7 +178,7 @@ module _ {K V S : Type 0} (same : K → K → Bool) (hash : S → K → ℕ) (fi
     begins : Goes (Holds same hash fixed) KeepsFor s s.memory id (λ x. (a : ℕ) × (x ≡ making v mine a hasher (opening given fixed.roots places)))
     begins =
         moved same hash fixed s h id v at_id act may n (h.course.leads h.reached.0 (Does act) may).0.1 s.memory w go
-        (record { own = ((λ a. hash hasher), refl); others = λ j ne theirs. refl; its = λ are. are; newest = λ other on. absurd (cc on); aside = λ j ne theirs. refl; seen = λ before free b x none. absurd (cc none) }) (λ x. (a : ℕ) × (x ≡ making v mine a hasher (opening given fixed.roots places))) (m, refl)
+        (record { own = ((λ a. hash hasher), refl); others = λ j ne theirs. refl; its = λ are. are; newest = λ other on. absurd (cc on); aside = λ j ne theirs. refl; seen = λ before b x none. absurd (cc none) }) (λ x. (a : ℕ) × (x ≡ making v mine a hasher (opening given fixed.roots places))) (m, refl)
 
   -- it makes a map, and takes a step
   module _ (mine : Bool) (m : ℕ) (hasher : S) (machine : NewMap) (works : v.work ≡ Makes mine m hasher machine) where
@@ -340,7 +341,7 @@ module _ {K V S : Type 0} (same : K → K → Bool) (hash : S → K → ℕ) (fi
               its = λ are. subst (λ (runs : List (BegunCall K V)). AreRuns same hash (calls_of id s.world.doings h.reached.1 []) runs) (sym calls_are) are;
               newest = λ other on. absurd (no_call other on);
               aside = λ j ne theirs. refl;
-              seen = λ before free b y shown. (let some = sym (ap (λ (l : List (ℕ × Node K V)). shown_in l b) none) ∙ shown in absurd (cc some));
+              seen = λ before b y shown. (let some = sym (ap (λ (l : List (ℕ × Node K V)). shown_in l b) none) ∙ shown in absurd (cc some));
             }) so_told is
 
       -- maps stand as before
@@ -397,6 +398,7 @@ module _ {K V S : Type 0} (same : K → K → Bool) (hash : S → K → ℕ) (fi
               own = own_still maps2 None more (none_more it) (λ e one. absurd (cc one));
               only = tt;
               held = tt;
+              table = tt;
               pair = tt;
               idle = its_idle maps2 None more (none_more it) (λ e one. absurd (cc one));
             })
@@ -425,6 +427,7 @@ module _ {K V S : Type 0} (same : K → K → Bool) (hash : S → K → ℕ) (fi
               own = known;
               only = tt;
               held = tt;
+              table = tt;
               pair = tt;
               idle = its_idle maps2 None more (none_more it) (λ e one. absurd (cc one));
             })
@@ -444,6 +447,7 @@ module _ {K V S : Type 0} (same : K → K → Bool) (hash : S → K → ℕ) (fi
             own = own_still scene.maps (Some next) stand_on so.fresh.1.0 (λ e one. ap (λ (x : Beginning K). x.map) (sym (same_some next e one)));
             only = tt;
             held = tt;
+            table = tt;
             pair = tt;
             idle = its_idle scene.maps (Some next) stand_on so.fresh.1.0 (λ e one. ap (λ (x : Beginning K). x.map) (sym (same_some next e one)));
           })
@@ -460,6 +464,7 @@ module _ {K V S : Type 0} (same : K → K → Bool) (hash : S → K → ℕ) (fi
             own = own_still scene.maps None stand_on so.fresh.1.0 (λ e one. absurd (cc one));
             only = tt;
             held = tt;
+            table = tt;
             pair = tt;
             idle = its_idle scene.maps None stand_on so.fresh.1.0 (λ e one. absurd (cc one));
           })

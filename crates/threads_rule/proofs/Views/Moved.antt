@@ -20,7 +20,7 @@ use Rattle.seize_views.specs.Views.Rows.{use_of}
 use Rattle.seize_views.specs.declared.view.Fixed.{Fixed}
 use Rattle.seize_views.proofs.Views.Lists.{there, elsewhere}
 use Rattle.threads_rule.specs.Views.Listed.{Called, calls_then, calls_of, seen_then, seen_of, AreNumbered, IsItsOwn, IsNewest}
-use Rattle.threads_rule.specs.Views.Rule.{MapsWorld, IsSlot, IsIdle, KnowsMap, IsOfMap, IsOwner, AreApart, IsBy, Fits, AreSo, KnowsRow, AreRuns, EndsNone, HasSeen, Holds, KeepsFor, IsLeant, LeansOn, LeansUnder, Leans, caller_at, acts_in, section_of, place_of, runs_of, IsFresh}
+use Rattle.threads_rule.specs.Views.Rule.{MapsWorld, IsSlot, IsIdle, KnowsMap, IsOfMap, IsOwner, AreApart, IsBy, Fits, AreSo, KnowsRow, AreRuns, HasSeen, Holds, KeepsFor, IsLeant, LeansOn, LeansUnder, Leans, caller_at, acts_in, section_of, place_of, runs_of, IsFresh}
 use Rattle.threads_rule.specs.declared.view.BegunCall.{BegunCall}
 use Rattle.threads_rule.specs.declared.view.Map.{Map}
 use Rattle.threads_rule.specs.declared.view.View.{View}
@@ -94,7 +94,7 @@ module _ {K V S : Type 0} (same : K → K → Bool) (hash : S → K → ℕ) (fi
     pub its : AreRuns same hash calls v.calls → AreRuns same hash (calls_then id (Does act) told calls) w.calls
     pub newest : (machine : Machine K V K) → w.work ≡ Calls machine → IsNewest (caller_at id (acts_in w.under w.slot)) (calls_then id (Does act) told calls)
     pub aside : (j : ℕ) → j ≢ id → (theirs : Option (ℕ × Mem (Node K V))) → seen_then j (Does act) n.world.memory theirs ≡ theirs
-    pub seen : (before : Option (ℕ × Mem (Node K V))) → EndsNone w.work
+    pub seen : (before : Option (ℕ × Mem (Node K V)))
         → HasSeen (caller_at id (acts_in w.under w.slot)) (calls_then id (Does act) told calls) (seen_then id (Does act) n.world.memory before) w.held
 
   -- the slot that it had is no other seat's
@@ -407,19 +407,19 @@ module _ {K V S : Type 0} (same : K → K → Bool) (hash : S → K → ℕ) (fi
     sees : (j : ℕ) → seen_now j ≡ seen_then j (Does act) n.world.memory (seen_before j)
     sees j = led_then.1 j None ∙ ap (λ (x : Scene K V). seen_then {S = S} j (Does act) x.world.memory (seen_before j)) comes
 
-    seen : (j : ℕ) (x : View K V S) → slice_get (slice_set s.views id w) j ≡ Some x → EndsNone x.work → (j ≡ id) ⊎ (j ≢ id)
+    seen : (j : ℕ) (x : View K V S) → slice_get (slice_set s.views id w) j ≡ Some x → (j ≡ id) ⊎ (j ≢ id)
         → HasSeen (caller_at j (acts_in x.under x.slot)) (calls_of j (s.world.doings ++ Does act ∷ []) led_to.1 []) (seen_now j) x.held
-    seen j x at free (inl e) =
+    seen j x at (inl e) =
         let is = same_some w x (sym (here j e) ∙ at) in
         subst (λ (o : Option (ℕ × Mem (Node K V))). HasSeen (caller_at j (acts_in x.under x.slot)) (calls_of j (s.world.doings ++ Does act ∷ []) led_to.1 []) o x.held) (sym (sees j))
         (subst (λ (c : List (Called K V)). HasSeen (caller_at j (acts_in x.under x.slot)) c (seen_then j (Does act) n.world.memory (seen_before j)) x.held) (sym (more j))
         (subst (λ (a : ℕ). HasSeen (caller_at a (acts_in x.under x.slot)) (calls_then a (Does act) told (calls_before a)) (seen_then a (Does act) n.world.memory (seen_before a)) x.held) (sym e)
         (subst (λ (y : View K V S). HasSeen (caller_at id (acts_in y.under y.slot)) (calls_then id (Does act) told (calls_before id)) (seen_then id (Does act) n.world.memory (seen_before id)) y.held) is
-        (adds.seen (seen_before id) (subst (λ (y : View K V S). EndsNone y.work) (sym is) free)))))
-    seen j x at free (inr ne) =
+        (adds.seen (seen_before id)))))
+    seen j x at (inr ne) =
         subst (λ (o : Option (ℕ × Mem (Node K V))). HasSeen (caller_at j (acts_in x.under x.slot)) (calls_of j (s.world.doings ++ Does act ∷ []) led_to.1 []) o x.held)
         (sym (sees j ∙ adds.aside j ne (seen_before j)))
-        (subst (λ (c : List (Called K V)). HasSeen (caller_at j (acts_in x.under x.slot)) c (seen_before j) x.held) (sym (more j ∙ adds.others j ne (calls_before j))) (h.seen j x (before j ne ∙ at) free))
+        (subst (λ (c : List (Called K V)). HasSeen (caller_at j (acts_in x.under x.slot)) c (seen_before j) x.held) (sym (more j ∙ adds.others j ne (calls_before j))) (h.seen j x (before j ne ∙ at)))
 
     pub moved : (so : View K V S → Type 0) → so w → Goes (Holds same hash fixed) KeepsFor s m id so
     moved so is = (
@@ -445,7 +445,7 @@ module _ {K V S : Type 0} (same : K → K → Bool) (hash : S → K → ℕ) (fi
         own = all_more (IsItsOwn hash) s.world.doings (Does act) h.own adds.own;
         calls = λ j. calls j (cases_eq j id);
         newest = λ j x machine at works. newest j x machine at works (cases_eq j id);
-        seen = λ j x at free. seen j x at free (cases_eq j id);
+        seen = λ j x at. seen j x at (cases_eq j id);
       },
       λ j k b u o ne ne2 at at2 keeps. kept j k b u o ne ne2 at at2 keeps,
       is,

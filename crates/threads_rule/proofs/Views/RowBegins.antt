@@ -256,7 +256,7 @@ module _ {K V S : Type 0} (same : K → K → Bool) (hash : S → K → ℕ) (fi
         (subst IsSlot (sym (held_place (use_of u) (use_of v.slot) g.place)) (its_place same hash fixed s h id v at_id own)) unlent (BeginsRow me request) numbered s.memory
         ((so same hash fixed s h id v at_id own).memory ∙ sym g.memory) g.plain g.short g.known g.bounded
         (λ j t a b x ne at uses its. let had = g.slot t b its in ne ((so same hash fixed s h id v at_id own).apart j id t a had.0 x v at at_id uses had.1)))
-        (record { own = ((λ a k. 0), on_own request no_block g.about); others = λ j ne theirs. refl; its = λ are. are; newest = λ other on. absurd (cc on); aside = λ j ne theirs. refl; seen = λ before free b x none. absurd (cc none) }) so_told is
+        (record { own = ((λ a k. 0), on_own request no_block g.about); others = λ j ne theirs. refl; its = λ are. are; newest = λ other on. absurd (cc on); aside = λ j ne theirs. refl; seen = λ before b x none. absurd (cc none) }) so_told is
       where
         numbered : AreNumbered 0 (s.world.doings ++ Does (BeginsRow me request) ∷ []) (so same hash fixed s h id v at_id own).fresh.0
         numbered = let f = (so same hash fixed s h id v at_id own).fresh in numbered_on s.world.doings (Does (BeginsRow me request) ∷ []) 0 f.0 f.0 f.2 refl

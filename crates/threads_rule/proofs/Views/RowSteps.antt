@@ -158,7 +158,7 @@ module _ {K V S : Type 0} (same : K → K → Bool) (hash : S → K → ℕ) (fi
         (w same hash fixed s h id v at_id own free u began n led.3 led.4)
         (go same hash fixed s h id v at_id own free u began n led.3 led.4 leaves none_ends g.row (used_like n (use_of u) g.used) g.place (its_slot (use_of u) refl) unlent (StepsRow me granted.0) numbered m g.memory
         g.plain g.short g.known g.bounded alone)
-        (record { own = ((λ a k. 0), tt); others = λ j ne theirs. refl; its = λ are. are; newest = λ other on. absurd (cc on); aside = λ j ne theirs. refl; seen = λ before free b x none. absurd (cc none) }) so_told is
+        (record { own = ((λ a k. 0), tt); others = λ j ne theirs. refl; its = λ are. are; newest = λ other on. absurd (cc on); aside = λ j ne theirs. refl; seen = λ before b x none. absurd (cc none) }) so_told is
       where
         numbered : AreNumbered 0 (s.world.doings ++ Does (StepsRow me granted.0) ∷ []) (so same hash fixed s h id v at_id own).fresh.0
         numbered = let f = (so same hash fixed s h id v at_id own).fresh in numbered_on s.world.doings (Does (StepsRow me granted.0) ∷ []) 0 f.0 f.0 f.2 refl

@@ -13,7 +13,7 @@ use Rattle.seize_views.proofs.Views.Lists.{with_last, with_more, none_before}
 use Rattle.threads_rule.specs.Views.Promises.{RulesStart, SeatsCome}
 use Rattle.threads_rule.specs.Views.Listed.{calls_of, seen_of, IsNewest}
 use Rattle.threads_rule.specs.Views.Looks.{shown_in}
-use Rattle.threads_rule.specs.Views.Rule.{MapsWorld, Fits, KnowsRow, AreRuns, EndsNone, HasSeen, IsIdle, IsSlot, caller_at, IsLeant, IsOwner, AreApart, acts_in, at_rest, runs_of}
+use Rattle.threads_rule.specs.Views.Rule.{MapsWorld, Fits, KnowsRow, AreRuns, HasSeen, IsIdle, IsSlot, caller_at, IsLeant, IsOwner, AreApart, acts_in, at_rest, runs_of}
 use Rattle.threads_rule.specs.declared.view.BegunCall.{BegunCall}
 use Rattle.threads_rule.specs.declared.view.Map.{Map}
 use Rattle.threads_rule.specs.declared.view.View.{View}
@@ -46,7 +46,7 @@ module _ {K S : Type 0} (V : Type 0) (same : K → K → Bool) (hash : S → K �
           own = tt;
           calls = λ j. tt;
           newest = λ j v machine e works. absurd (cc e);
-          seen = λ j v e ends. absurd (cc e);
+          seen = λ j v e. absurd (cc e);
         },
       )
 
@@ -66,6 +66,7 @@ module _ {K S : Type 0} (V : Type 0) (same : K → K → Bool) (hash : S → K �
         own = tt;
         only = tt;
         held = tt;
+        table = tt;
         pair = tt;
         idle = λ t is ne. idle t is;
       }
@@ -94,7 +95,7 @@ module _ {K S : Type 0} (V : Type 0) (same : K → K → Bool) (hash : S → K �
       calls = λ j.
           subst (λ (runs : List (BegunCall K V)). AreRuns same hash (calls_of j s.world.doings h.reached.1 []) runs) (as_before j (slice_get (s.views ++ at_rest ∷ []) j) refl) (h.calls j);
       newest = λ j x machine e works. newest j x machine works (with_last s.views j at_rest x e);
-      seen = λ j x e ends. seen j x ends (with_last s.views j at_rest x e);
+      seen = λ j x e. seen j x (with_last s.views j at_rest x e);
     },
     λ b u o keeps. keeps,
   )
@@ -115,11 +116,11 @@ module _ {K S : Type 0} (V : Type 0) (same : K → K → Bool) (hash : S → K �
       newest j x machine works (inl e) = h.newest j x machine e works
       newest j x machine works (inr e) = let none = ap (λ (y : View K V S). y.work) e.1 in absurd (cc (none, works))
 
-      seen : (j : ℕ) (x : View K V S) → EndsNone x.work → Came s j x
+      seen : (j : ℕ) (x : View K V S) → Came s j x
           → HasSeen (caller_at j (acts_in x.under x.slot)) (calls_of j s.world.doings h.reached.1 [])
           (seen_of V same hash fixed.batch_size fixed.roots slot_of h.course j s.world.doings (nothing_done V same hash fixed.batch_size fixed.roots slot_of h.course) h.reached h.led None) x.held
-      seen j x ends (inl e) = h.seen j x e ends
-      seen j x ends (inr e) = λ b y shown. (let none : shown_in (at_rest {K = K} {V = V} {S = S}).held b ≡ Some y = ap (λ (z : View K V S). shown_in z.held b) e.1 ∙ shown in absurd (cc none))
+      seen j x (inl e) = h.seen j x e
+      seen j x (inr e) = λ b y shown. (let none : shown_in (at_rest {K = K} {V = V} {S = S}).held b ≡ Some y = ap (λ (z : View K V S). shown_in z.held b) e.1 ∙ shown in absurd (cc none))
 
       as_before : (j : ℕ) (o : Option (View K V S)) → slice_get (s.views ++ at_rest ∷ []) j ≡ o → runs_of (view_of s j) ≡ runs_of o
       as_before j None e = ap runs_of (none_before s.views j at_rest e)

@@ -12,11 +12,10 @@ use Rattle.seize_views.specs.declared.view.Fixed.{Fixed}
 use Rattle.seize_views.specs.declared.view.SlotView.{SlotView}
 use Rattle.threads_rule.specs.Views.Listed.{calls_of, seen_of, IsNewest}
 use Rattle.threads_rule.specs.Views.Looks.{shown_in}
-use Rattle.threads_rule.specs.Views.Rule.{MapsWorld, Fits, KnowsRow, AreRuns, EndsNone, HasSeen, Holds, caller_at, IsLeant, IsOwner, AreApart, acts_in, runs_of}
+use Rattle.threads_rule.specs.Views.Rule.{MapsWorld, Fits, KnowsRow, AreRuns, HasSeen, Holds, caller_at, IsLeant, IsOwner, AreApart, acts_in, runs_of}
 use Rattle.threads_rule.specs.declared.view.BegunCall.{BegunCall}
 use Rattle.threads_rule.specs.declared.view.Map.{Map}
 use Rattle.threads_rule.specs.declared.view.View.{View}
-use Rattle.threads_rule.specs.declared.view.SeatWork.{SeatWork}
 use Rattle.threads_rule.specs.declared.view.SeatWork.TheVariants.{Nothing, Calls}
 use Rattle.seize_words.proofs.General.{same_some}
 
@@ -64,7 +63,7 @@ module _ {K V S : Type 0} (same : K → K → Bool) (hash : S → K → ℕ) (fi
         subst (λ (runs : List (BegunCall K V)). AreRuns same hash (calls_of k s.world.doings h.reached.1 []) runs) (as_before k (slice_get views k) refl) (h.calls k);
     newest = λ k x machine at works.
         let o = had k x at in newest k x machine works o o.under;
-    seen = λ k x at ends. let o = had k x at in sees k x ends o o.under;
+    seen = λ k x at. let o = had k x at in sees k x o o.under;
   }
     where
       seen : ℕ → Option (ℕ × Mem (Node K V))
@@ -82,12 +81,12 @@ module _ {K V S : Type 0} (same : K → K → Bool) (hash : S → K → ℕ) (fi
           subst (λ (a : ℕ). IsNewest (caller_at k a) (calls_of k s.world.doings h.reached.1 [])) (same_place x o.knew o.slot is) (h.newest k o.knew machine o.at (sym o.work ∙ works))
       newest k x machine works o (inr (free, none, leant)) = absurd (cc (free, works))
 
-      sees : (k : ℕ) (x : View K V S) → EndsNone x.work → (o : Had k x)
+      sees : (k : ℕ) (x : View K V S) (o : Had k x)
           → (x.under ≡ o.knew.under) ⊎ ((x.work ≡ Nothing) × (x.held ≡ []) × ((n t : ℕ) → x.under ≡ Some (n, t) → IsLeant (view_of s) n t))
           → HasSeen (caller_at k (acts_in x.under x.slot)) (calls_of k s.world.doings h.reached.1 []) (seen k) x.held
-      sees k x ends o (inl is) = λ b y shown.
-          subst (λ (a : ℕ). HasSeen (caller_at k a) (calls_of k s.world.doings h.reached.1 []) (seen k) o.knew.held) (same_place x o.knew o.slot is) (h.seen k o.knew o.at (subst (λ (y : SeatWork K V S). EndsNone y) o.work ends)) b y (o.held b y shown)
-      sees k x ends o (inr (free, none, leant)) = λ b y shown. (let some = sym (ap (λ (l : List (ℕ × Node K V)). shown_in l b) none) ∙ shown in absurd (cc some))
+      sees k x o (inl is) = λ b y shown.
+          subst (λ (a : ℕ). HasSeen (caller_at k a) (calls_of k s.world.doings h.reached.1 []) (seen k) o.knew.held) (same_place x o.knew o.slot is) (h.seen k o.knew o.at) b y (o.held b y shown)
+      sees k x o (inr (free, none, leant)) = λ b y shown. (let some = sym (ap (λ (l : List (ℕ × Node K V)). shown_in l b) none) ∙ shown in absurd (cc some))
 
       was_leant : (k n t : ℕ) (x : View K V S) → Had k x → x.under ≡ Some (n, t) → IsLeant (view_of s) n t
       was_leant k n t x o f = elim o.under as (λ _. IsLeant (view_of s) n t) [

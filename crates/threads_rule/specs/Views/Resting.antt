@@ -4,6 +4,8 @@ use Rattle.std.proofs.Common.{inl, inr, refl, sym, subst, ap}
 use Rattle.seize_words.specs.OneMemory.Op.{Op, Out}
 use Rattle.seize.specs.declared.advance.Advance.{Advance as Told}
 use Rattle.seize.specs.declared.advance.Advance.TheVariants as told_as
+use Rattle.seize.specs.declared.rows.settle.Settled.{Settled}
+use Rattle.seize.specs.declared.rows.settle.Settled.TheVariants as settled
 use Rattle.map_tables.specs.Nodes.{deferred_word}
 use Rattle.map_tables.specs.declared.node.Node.{Node}
 use Rattle.map_tables.specs.declared.setting.Setting.{Setting}
@@ -15,7 +17,7 @@ use Rattle.seize_views.specs.declared.view.SlotView.{SlotView}
 use Rattle.seize_views.specs.declared.view.SlotView.TheVariants.{Inside}
 use Rattle.threads_rule.specs.Views.Notes.{busy, knows_by, row_known, SeatIsQuiescent}
 use Rattle.threads_rule.specs.Views.Rule.{LeansOn, IsBy, Leans}
-use Rattle.threads_rule.specs.Views.Told.{told, observed_by, with_made, made_after}
+use Rattle.threads_rule.specs.Views.Told.{told, observed_by, with_made, made_after, ended_after}
 use Rattle.threads_rule.specs.declared.view.Map.{Map}
 use Rattle.threads_rule.specs.declared.view.View.{View}
 use Rattle.threads_rule.specs.declared.view.SeatWork.{SeatWork}
@@ -46,7 +48,11 @@ module _ {K V S : Type 0} (same : K → K → Bool) (hash : S → K → ℕ) whe
   same_under v op out w map Nothing is = (ap (λ (x : View K V S). x.under) is.2, inl (ap (λ (x : View K V S). x.by) is.2))
   same_under v op out w None (Calls machine) is = absurd is
   same_under v op out w (Some map) (Calls machine) is = (ap (λ (x : View K V S). x.under) is.2, inl (ap (λ (x : View K V S). x.by) is.2))
-  same_under v op out w map (Ends machine) is = (ap (λ (x : View K V S). x.under) is.2, inl (ap (λ (x : View K V S). x.by) is.2))
+  same_under v op out w map (Ends machine) is = after is.0.1 is.2
+    where
+      after : (end : Settled (Node K V)) → w ≡ ended_after v w.looks is.0.0 end → (w.under ≡ v.under) × ((w.by ≡ v.by) ⊎ (w.by ≡ None))
+      after settled.Done e = (ap (λ (x : View K V S). x.under) e, inl (ap (λ (x : View K V S). x.by) e))
+      after _ e = (ap (λ (x : View K V S). x.under) e, inl (ap (λ (x : View K V S). x.by) e))
   same_under v op out w map (Makes mine m hasher opening) is = after is.0.1 is.2
     where
       made : (own : Bool) (before : Option (Map S)) (setting : Setting) → w ≡ with_made v own before (record { number = m; setting = setting; hasher = hasher }) w.looks

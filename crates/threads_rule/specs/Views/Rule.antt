@@ -198,11 +198,6 @@ module _ {K V : Type 0} where
   HasSeen i calls seen looks =
       (b : ℕ) (x : Node K V) → shown_in looks b ≡ Some x → (memory : Mem (Node K V)) × (seen ≡ Some (i, memory)) × IsNewest i calls × (value_at memory b ≡ Some x)
 
-  -- it ends no map
-  abbrev pub EndsNone : {S : Type 0} → SeatWork K V S → Type 0
-  EndsNone (Ends machine) = ⊥
-  EndsNone work = Unit {0}
-
   -- no map has this number or a later one, nor one that is being made
   abbrev pub IsFresh : Scene K V → ℕ → Type 0
   IsFresh s k = ((m : ℕ) → k ≤ m → s.maps m ≡ None) × ((i : ℕ) (b : Beginning K) → s.makers i ≡ Some b → b.map < k)
@@ -270,6 +265,11 @@ module _ {K V S : Type 0} (same : K → K → Bool) (hash : S → K → ℕ) whe
   AllHeld s under slot map work [] = Unit {0}
   AllHeld s under slot map work (look ∷ looks) = IsHeld s under slot map work look × AllHeld s under slot map work looks
 
+  -- the last step of the end of a map has looked at the table to which that has come, which is there with this value
+  abbrev pub KnowsTable : Scene K V → SeatWork K V S → List (ℕ × Node K V) → Type 0
+  KnowsTable s (Ends machine) looks = (b : ℕ) (x : Node K V) → shown_in looks b ≡ Some x → (value_at s.world.memory b ≡ Some x) × IsAtTable machine machine.stands b
+  KnowsTable s work looks = Unit {0}
+
   -- A call that a seat knows of is this one of the list: it began as that does on this map, in the slot of its caller, and has told the same last.
   pub record IsRun (call : Called K V) (run : BegunCall K V) : Type 0 where
     pub map : Map S
@@ -294,6 +294,7 @@ module _ {K V S : Type 0} (same : K → K → Bool) (hash : S → K → ℕ) whe
     pub own : KnowsMap s v.own
     pub only : LooksAside v.under v.map v.work
     pub held : AllHeld s v.under v.slot v.map v.work v.held
+    pub table : KnowsTable s v.work v.looks
     pub pair : KnowsPair s (caller_at j (acts_in v.under v.slot)) v.map v.work v.calls
     pub idle : (t : ℕ) → IsSlot t → t ≢ acts_in v.under v.slot → IsIdle s (caller_at j t)
 
@@ -319,7 +320,7 @@ module _ {K V S : Type 0} (same : K → K → Bool) (hash : S → K → ℕ) whe
     pub own : AllByRecursion (IsItsOwn hash) s.world.doings
     pub calls : (j : ℕ) → AreRuns (calls_of j s.world.doings reached.1 []) (runs_of (view_of s j))
     pub newest : (j : ℕ) (v : View K V S) (machine : Machine K V K) → view_of s j ≡ Some v → v.work ≡ Calls machine → IsNewest (caller_at j (acts_in v.under v.slot)) (calls_of j s.world.doings reached.1 [])
-    pub seen : (j : ℕ) (v : View K V S) → view_of s j ≡ Some v → EndsNone v.work
+    pub seen : (j : ℕ) (v : View K V S) → view_of s j ≡ Some v
         → HasSeen (caller_at j (acts_in v.under v.slot)) (calls_of j s.world.doings reached.1 [])
         (seen_of V same hash fixed.batch_size fixed.roots slot_of course j s.world.doings (nothing_done V same hash fixed.batch_size fixed.roots slot_of course) reached led None) v.held
 

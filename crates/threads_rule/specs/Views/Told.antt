@@ -81,14 +81,10 @@ module _ {K V S : Type 0} where
   made_after v own m hasher looks opening (told_as.Refused fault) = record { slot = v.slot; under = v.under; map = v.map; by = v.by; own = v.own; work = Nothing; looks = looks; held = []; began = v.began; calls = v.calls }
   made_after v own m hasher looks opening told = record { slot = v.slot; under = v.under; map = v.map; by = v.by; own = v.own; work = Makes own m hasher opening; looks = looks; held = []; began = v.began; calls = v.calls }
 
-  -- the end of one that has come so far: it goes on, or is over
-  abbrev pub end_after : EndMap → Settled (Node K V) → SeatWork K V S
-  end_after machine settled.Done = Nothing
-  end_after machine told = Ends machine
-
-  -- and once it has
+  -- and once the end of one has: its last step looks at nothing
   abbrev pub ended_after : View K V S → List (ℕ × Node K V) → EndMap → Settled (Node K V) → View K V S
-  ended_after v looks machine told = record { slot = v.slot; under = v.under; map = v.map; by = v.by; own = v.own; work = end_after machine told; looks = looks; held = looks; began = v.began; calls = v.calls }
+  ended_after v looks machine settled.Done = record { slot = v.slot; under = v.under; map = v.map; by = v.by; own = v.own; work = Nothing; looks = []; held = []; began = v.began; calls = v.calls }
+  ended_after v looks machine told = record { slot = v.slot; under = v.under; map = v.map; by = v.by; own = v.own; work = Ends machine; looks = looks; held = []; began = v.began; calls = v.calls }
 
 module _ {K V S : Type 0} (same : K → K → Bool) (hash : S → K → ℕ) where
   abbrev pub observed_by : View K V S → Option (Map S) → SeatWork K V S → Op (Node K V) → Out (Node K V) → View K V S → Type 0
