@@ -1,7 +1,7 @@
 -- The seat that owns a map begins to end it, where nobody leans on it; and an end goes on.
-use Rattle.std.specs.Prelude.{◌≢◌, ◌∷◌, ◌==◌, Option, Some, None, IsSome, if◌then◌else◌}
+use Rattle.std.specs.Prelude.{◌≢◌, ◌∷◌, Option, Some, None, IsSome}
 use Rattle.std.specs.Option.{is_none}
-use Rattle.std.proofs.Common.{◌≡◌, ℕ, ◌≤◌, Bool, true, false, List, [], ◌⊎◌, inl, inr, refl, sym, subst, ap, ◌∙◌, eqb-true}
+use Rattle.std.proofs.Common.{◌≡◌, ℕ, ◌≤◌, Bool, true, false, List, [], ◌⊎◌, inl, inr, refl, sym, subst, ap, ◌∙◌}
 use Rattle.std.proofs.lemmas.Bool.{cases_eq}
 use Rattle.seize_words.specs.OneMemory.Mem.{Mem, Can, Took, value_at}
 use Rattle.seize_words.specs.OneMemory.Op.{Op, Out}
@@ -57,7 +57,7 @@ use Rattle.threads_rule.proofs.Views.Looked.{AllLooked, Made, may_op}
 use Rattle.threads_rule.proofs.Views.Moved.{scene_of, all_stand, are_so, KnowsThen, Moved, knows_alike, same_slot, moved}
 use Rattle.threads_rule.proofs.Views.Quiet.{there, held_is_linked}
 use Rattle.threads_rule.proofs.Views.Ran.{AreNoRows, no_rows_pass}
-use Rattle.threads_rule.proofs.Views.Tables.{ComesTo, end_sees}
+use Rattle.threads_rule.proofs.Views.Tables.{ComesTo, looked_table, none_looked}
 use Rattle.threads_rule.proofs.Views.Taking.{ends_keep, ends_keep_made, ends_keep_handed}
 use Rattle.threads_rule.proofs.Views.Whose.{Seated, whose}
 use Rattle.seize_words.proofs.General.{same_some}
@@ -396,28 +396,15 @@ module _ {K V S : Type 0} (same : K → K → Bool) (hash : S → K → ℕ) (fi
       its_idle = own_idle same hash scene_now n2 id place_now fits_now.slot fixed.batch_size None step_leaves fits_now.idle
 
     -- what it has looked at is the table to which it comes
-    abbrev HasLooked : Settled (Node K V) → List (ℕ × Node K V) → Type 0
-    HasLooked told looks = AllLooked scene_now.world.memory (end_map_plan {K = K} {V = V} machine) m2 (step_led.3, told) looks
+    abbrev HasLooked : Settled (Node K V) → Type 0
+    HasLooked told = AllLooked scene_now.world.memory (end_map_plan {K = K} {V = V} machine) m2 (step_led.3, told) made.looks
 
-    abbrev IsTable : Settled (Node K V) → ℕ → Type 0
-    IsTable told b = ComesTo {K = K} {V = V} b (step_led.3, told)
+    abbrev IsTable : Settled (Node K V) → Type 0
+    IsTable told = (b : ℕ) (x : Node K V) → shown_in made.looks b ≡ Some x → (value_at w2.memory b ≡ Some x) × ComesTo {K = K} {V = V} b (step_led.3, told)
 
-    looked_at : (told : Settled (Node K V)) (looks : List (ℕ × Node K V)) → HasLooked told looks → (b : ℕ) (x : Node K V) → shown_in looks b ≡ Some x
-        → (value_at w2.memory b ≡ Some x) × IsTable told b
-    looked_at told [] seen b x none = absurd (cc none)
-    looked_at told (look ∷ looks) (saw, there, more) b x shown = by (b == look.0) refl shown
-      where
-        by : (k : Bool) → (b == look.0) ≡ k → (if k then Some look.1 else shown_in looks b) ≡ Some x → (value_at w2.memory b ≡ Some x) × IsTable told b
-        by false e is = looked_at told looks more b x is
-        by true e is =
-            let here = eqb-true b look.0 e in (
-              ap (value_at w2.memory) here ∙ ap (λ (y : Mem (Node K V)). value_at y look.0) (did.memory ∙ sym memory_is) ∙ there ∙ is,
-              subst (IsTable told) (sym here) (end_sees look.0 scene_now.world.memory m2 machine (step_led.3, told) saw),
-            )
-
-    none_looked : (looks : List (ℕ × Node K V)) → HasLooked settled.Done looks → looks ≡ []
-    none_looked [] seen = refl
-    none_looked (look ∷ looks) (saw, there, more) = absurd (end_sees look.0 scene_now.world.memory m2 machine (step_led.3, settled.Done) saw)
+    looked_at : (told : Settled (Node K V)) → HasLooked told → IsTable told
+    looked_at told seen b x shown =
+        let g = looked_table scene_now.world.memory m2 machine step_led.3 told made.looks seen b x shown in (ap (λ (y : Mem (Node K V)). value_at y b) (did.memory ∙ sym memory_is) ∙ g.0, g.1)
 
     -- the end goes on
     goes_on : (so_told : View K V S → Type 0) (next : Finishing K V) → next.machine ≡ step_led.3 → stage ≡ n2 (Some next)
@@ -442,10 +429,10 @@ module _ {K V S : Type 0} (same : K → K → Bool) (hash : S → K → ℕ) (fi
         is
 
     by : (so_told : View K V S → Type 0) (end : Settled (Node K V)) → so_told (ended_after v made.looks step_led.3 end) → EndingCame same hash fixed.batch_size fixed.roots slot_of scene_now me d did.w2 did.deed step_led.3 stage end
-        → HasLooked end made.looks → Goes (Holds same hash fixed) KeepsFor s m2 id so_told
-    by so_told settled.Goes is came seen = goes_on so_told _ refl came.1 (looked_at settled.Goes made.looks seen) is
+        → HasLooked end → Goes (Holds same hash fixed) KeepsFor s m2 id so_told
+    by so_told settled.Goes is came seen = goes_on so_told _ refl came.1 (looked_at settled.Goes seen) is
     by so_told settled.Waits is came seen = absurd came
-    by so_told (settled.Gave value) is (b, was, taken, came) seen = goes_on so_told _ refl came (looked_at (settled.Gave value) made.looks seen) is
+    by so_told (settled.Gave value) is (b, was, taken, came) seen = goes_on so_told _ refl came (looked_at (settled.Gave value) seen) is
     by so_told settled.Done is came seen =
         goes_by None (ended_after v made.looks step_led.3 settled.Done) so_told came.2 refl refl refl refl refl refl (λ other on. cc on) refl
         (record {
@@ -469,13 +456,13 @@ module _ {K V S : Type 0} (same : K → K → Bool) (hash : S → K → ℕ) (fi
         })
         is
 
-    looks_same : (end : Settled (Node K V)) → HasLooked end made.looks → (ended_after v made.looks step_led.3 end).looks ≡ made.looks
+    looks_same : (end : Settled (Node K V)) → HasLooked end → (ended_after v made.looks step_led.3 end).looks ≡ made.looks
     looks_same settled.Goes seen = refl
     looks_same settled.Waits seen = refl
     looks_same (settled.Gave value) seen = refl
-    looks_same settled.Done seen = sym (none_looked made.looks seen)
+    looks_same settled.Done seen = sym (none_looked scene_now.world.memory m2 machine step_led.3 made.looks seen)
 
-    seen_then : HasLooked step_led.4 made.looks
+    seen_then : HasLooked step_led.4
     seen_then = subst (λ (e : EndMap × Settled (Node K V)). AllLooked scene_now.world.memory (end_map_plan {K = K} {V = V} machine) m2 e made.looks) end_is made.seen
 
     goes : (op : Op (Node K V)) → Goes (Holds same hash fixed) KeepsFor s m2 id (told same hash v op out)

@@ -58,7 +58,7 @@ use Rattle.threads_rule.proofs.Views.Moved.{scene_of, all_stand, are_so, KnowsTh
 use Rattle.threads_rule.proofs.Views.Ran.{Ran, ran_stays, ran_keeps, ran_passes}
 use Rattle.threads_rule.proofs.Views.Sections.{as_users}
 use Rattle.many_acts.proofs.Given.CallersTogether.Slots.{alike_same}
-use Rattle.seize_words.proofs.General.{same_some}
+use Rattle.seize_words.proofs.General.{none_is, same_some}
 
 module _ {K V S : Type 0} (same : K → K → Bool) (hash : S → K → ℕ) (fixed : Fixed) (s : State (Node K V) (View K V S) (MapsWorld K V S)) (h : Holds same hash fixed s)
     (id : ℕ) (v : View K V S) (at_id : view_of s id ≡ Some v) where
@@ -244,10 +244,6 @@ module _ {K V S : Type 0} (same : K → K → Bool) (hash : S → K → ℕ) (fi
       uses : (t : ℕ) → w2.uses t ≡ scene.world.uses t
       uses t = ap (λ (f : ℕ → Use). f t) (events_uses fixed.batch_size did.step.events scene.world w2 did.step.users did.step.runs)
 
-      none_ended : (o : Option (Finishing K V)) → scene.enders i ≡ o → scene.enders i ≡ None
-      none_ended None e = e
-      none_ended (Some f) e = let a = (all.alone i f e).1 in let b = does.1.here in absurd (cc (a, b))
-
       reached : Reached deferred_word fixed.batch_size scene.world
       reached = came_reached fixed.batch_size scene.world all.makings.standing.came
 
@@ -328,7 +324,7 @@ module _ {K V S : Type 0} (same : K → K → Bool) (hash : S → K → ℕ) (fi
           slot = tt;
           calls = does.1.calls;
           makers = at_same scene.makers i it i refl ∙ gone;
-          enders = none_ended (scene.enders i) refl;
+          enders = none_is (scene.enders i) (λ f e. (let a = (all.alone i f e).1 in let b = does.1.here in cc (a, b)));
         })
 
         goes_by : (x : View K V S) (so_told : View K V S → Type 0) → stage ≡ n2 → x.slot ≡ v.slot → x.under ≡ v.under → x.calls ≡ v.calls → ((other : Machine K V K) → x.work ≡ Calls other → ⊥) → x.held ≡ []

@@ -1,6 +1,6 @@
 -- The table to which the end of a map has come has its value as long as the end stands there; and a step of an end looks at the one alone to which it comes.
-use Rattle.std.specs.Prelude.{◌==◌, ◌&&◌, ◌<◌, ◌++◌, ◌+◌, ◌*◌, ◌%◌, ◌^◌, not, Option, if◌then◌else◌}
-use Rattle.std.proofs.Common.{◌≡◌, ℕ, Bool, true, false, List, inl, inr, refl, sym, subst, ap, ◌∙◌, arith}
+use Rattle.std.specs.Prelude.{◌==◌, ◌&&◌, ◌<◌, ◌++◌, ◌+◌, ◌*◌, ◌%◌, ◌^◌, not, Option, Some, if◌then◌else◌}
+use Rattle.std.proofs.Common.{◌≡◌, ℕ, Bool, true, false, List, [], ◌∷◌, inl, inr, refl, sym, subst, ap, ◌∙◌, arith, eqb-true}
 use Rattle.seize_words.specs.OneMemory.Mem.{Mem, value_at}
 use Rattle.seize_words.specs.OneMemory.Plan.{Then, Now, Seeing, Ends}
 use Rattle.seize_words.specs.OneMemory.Word.{block_in}
@@ -28,7 +28,8 @@ use Rattle.many_acts.proofs.Given.FinishesEnds.CountedBlocks.{later_apart, some_
 use Rattle.many_acts.proofs.Given.FinishesEnds.Known.{back_once}
 use Rattle.many_acts.proofs.Given.FinishesEnds.OrdersOn.{table_later}
 use Rattle.many_acts.proofs.Looks.Sees.Operations.{none_if, loads, takes}
-use Rattle.threads_rule.specs.Views.Looks.{IsAtTable}
+use Rattle.threads_rule.specs.Views.Looks.{shown_in, IsAtTable}
+use Rattle.threads_rule.proofs.Views.Looked.{AllLooked}
 
 module _ {K V : Type 0} (same : K → K → Bool) (batch_size : ℕ) (w : World (Node K V)) (i : ℕ) (d : Finishing K V) (facts : FinishingFacts same batch_size w i d) (b : ℕ) where
   abbrev IsAsBegan : ℕ → Type 0
@@ -126,5 +127,25 @@ module _ {K V : Type 0} (b : ℕ) (m n : Mem (Node K V)) (c : EndMap) (end : End
   by_point at.Over saw = absurd saw.2
 
   -- a step of an end has seen no block but the table to which it comes
-  pub end_sees : HasSeen b m (end_map_plan c) n end → ComesTo end
+  end_sees : HasSeen b m (end_map_plan c) n end → ComesTo end
   end_sees saw = by_point c.stands saw
+
+module _ {K V : Type 0} (m n : Mem (Node K V)) (c e : EndMap) where
+  abbrev HasLooked : Settled (Node K V) → List (ℕ × Node K V) → Type 0
+  HasLooked told looks = AllLooked m (end_map_plan c) n (e, told) looks
+
+  -- so what it has looked at is that one, with its value; and nothing, where the end is over
+  pub looked_table : (told : Settled (Node K V)) (looks : List (ℕ × Node K V)) → HasLooked told looks → (b : ℕ) (x : Node K V) → shown_in looks b ≡ Some x
+      → (value_at n b ≡ Some x) × ComesTo {K = K} {V = V} b (e, told)
+  looked_table told [] seen b x none = absurd (cc none)
+  looked_table told (look ∷ looks) (saw, there, more) b x shown = by (b == look.0) refl shown
+    where
+      by : (k : Bool) → (b == look.0) ≡ k → (if k then Some look.1 else shown_in looks b) ≡ Some x → (value_at n b ≡ Some x) × ComesTo {K = K} {V = V} b (e, told)
+      by false is f = looked_table told looks more b x f
+      by true is f =
+          let here = eqb-true b look.0 is in
+          (ap (value_at n) here ∙ there ∙ f, subst (λ (a : ℕ). ComesTo {K = K} {V = V} a (e, told)) (sym here) (end_sees look.0 m n c (e, told) saw))
+
+  pub none_looked : (looks : List (ℕ × Node K V)) → HasLooked settled.Done looks → looks ≡ []
+  none_looked [] seen = refl
+  none_looked (look ∷ looks) (saw, there, more) = absurd (end_sees look.0 m n c (e, settled.Done) saw)
