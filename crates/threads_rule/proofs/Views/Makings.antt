@@ -18,7 +18,7 @@ use Rattle.papaya_raw.specs.declared.machines.machine.Machine.{Machine}
 use Rattle.map_machines.specs.NewMap.{new_map_plan, opening}
 use Rattle.map_machines.specs.declared.new_map.NewMap.{NewMap}
 use Rattle.many_acts.specs.Given.CallersRows.{IsUsedAlike}
-use Rattle.many_acts.specs.Given.FinishesEndings.{Finishing, MakingStepsWithEndings}
+use Rattle.many_acts.specs.Given.FinishesEndings.{MakingStepsWithEndings}
 use Rattle.many_acts.specs.Given.FinishesMakings.{Beginning}
 use Rattle.many_acts.specs.Given.FinishesMaps.{Standing}
 use Rattle.many_acts.proofs.Given.CallersTogether.At.{at_same, at_other}
