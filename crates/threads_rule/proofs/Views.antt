@@ -19,6 +19,7 @@ mod Settled
 mod RowLooks
 pub mod Starts
 pub mod Leaves
+mod Tables
 mod Lasts
 pub mod Listed
 mod Moved

@@ -1,5 +1,5 @@
 -- The seat that owns a map begins to end it, where nobody leans on it; and an end goes on.
-use Rattle.std.specs.Prelude.{◌≢◌, ◌∷◌, Option, Some, None}
+use Rattle.std.specs.Prelude.{◌≢◌, ◌∷◌, Option, Some, None, IsSome}
 use Rattle.std.specs.Option.{is_none}
 use Rattle.std.proofs.Common.{◌≡◌, ℕ, ◌≤◌, Bool, true, false, List, [], ◌⊎◌, inl, inr, refl, sym, subst, ap, ◌∙◌}
 use Rattle.std.proofs.lemmas.Bool.{cases_eq}
@@ -41,9 +41,9 @@ use Rattle.seize_views.specs.declared.view.SlotView.{SlotView}
 use Rattle.seize_views.specs.declared.view.SlotView.TheVariants as slot_view
 use Rattle.threads_rule.specs.Views.Begun.{ending_own}
 use Rattle.threads_rule.specs.Views.Listed.{calls_of}
-use Rattle.threads_rule.specs.Views.Looks.{shown_in}
-use Rattle.threads_rule.specs.Views.Promises.{EndingsBegin, EndingsContinue}
-use Rattle.threads_rule.specs.Views.Rule.{MapsWorld, HasRow, HasEnding, DoesSo, KnowsMap, AreRuns, Fits, AreSo, Holds, KeepsFor, IsBy, IsFresh, IsIdle, IsSlot, Leans, caller_at, acts_in}
+use Rattle.threads_rule.specs.Views.Looks.{shown_in, MayFollow, IsAtTable}
+use Rattle.threads_rule.specs.Views.Promises.{EndingsBegin, EndingsContinue, EndingsAreShown}
+use Rattle.threads_rule.specs.Views.Rule.{MapsWorld, HasRow, HasEnding, DoesSo, KnowsMap, KnowsTable, AreRuns, Fits, AreSo, Holds, KeepsFor, IsBy, IsFresh, IsIdle, IsSlot, Leans, caller_at, acts_in}
 use Rattle.threads_rule.specs.Views.Told.{told, observed_by, ended_after}
 use Rattle.threads_rule.specs.declared.view.BegunCall.{BegunCall}
 use Rattle.threads_rule.specs.declared.view.Map.{Map}
@@ -53,10 +53,11 @@ use Rattle.threads_rule.specs.declared.view.SeatWork.TheVariants.{Nothing, Calls
 use Rattle.threads_rule.proofs.Views.Knows.{knows_rests}
 use Rattle.threads_rule.proofs.Views.Leaves.{Leaves, Lasts, own_idle, map_on, all_last}
 use Rattle.threads_rule.proofs.Views.Listed.{numbered_on}
-use Rattle.threads_rule.proofs.Views.Looked.{Made, may_op}
+use Rattle.threads_rule.proofs.Views.Looked.{AllLooked, Made, may_op}
 use Rattle.threads_rule.proofs.Views.Moved.{scene_of, all_stand, are_so, KnowsThen, Moved, knows_alike, same_slot, moved}
 use Rattle.threads_rule.proofs.Views.Quiet.{there, held_is_linked}
 use Rattle.threads_rule.proofs.Views.Ran.{AreNoRows, no_rows_pass}
+use Rattle.threads_rule.proofs.Views.Tables.{ComesTo, looked_table, none_looked}
 use Rattle.threads_rule.proofs.Views.Taking.{ends_keep, ends_keep_made, ends_keep_handed}
 use Rattle.threads_rule.proofs.Views.Whose.{Seated, whose}
 use Rattle.seize_words.proofs.General.{same_some}
@@ -200,6 +201,7 @@ module _ {K V S : Type 0} (same : K → K → Bool) (hash : S → K → ℕ) (fi
       own = tt;
       only = tt;
       held = tt;
+      table = λ b x none. absurd (cc none);
       pair = tt;
       idle = own_idle same hash scene n id place fits.slot fixed.batch_size None leaves fits.idle;
     };
@@ -393,11 +395,23 @@ module _ {K V S : Type 0} (same : K → K → Bool) (hash : S → K → ℕ) (fi
       its_idle : (t : ℕ) → IsSlot t → t ≢ place_now → IsIdle n2 (caller_at id t)
       its_idle = own_idle same hash scene_now n2 id place_now fits_now.slot fixed.batch_size None step_leaves fits_now.idle
 
+    -- what it has looked at is the table to which it comes
+    abbrev HasLooked : Settled (Node K V) → Type 0
+    HasLooked told = AllLooked scene_now.world.memory (end_map_plan {K = K} {V = V} machine) m2 (step_led.3, told) made.looks
+
+    abbrev IsTable : Settled (Node K V) → Type 0
+    IsTable told = (b : ℕ) (x : Node K V) → shown_in made.looks b ≡ Some x → (value_at w2.memory b ≡ Some x) × ComesTo {K = K} {V = V} b (step_led.3, told)
+
+    looked_at : (told : Settled (Node K V)) → HasLooked told → IsTable told
+    looked_at told seen b x shown =
+        let g = looked_table scene_now.world.memory m2 machine step_led.3 told made.looks seen b x shown in (ap (λ (y : Mem (Node K V)). value_at y b) (did.memory ∙ sym memory_is) ∙ g.0, g.1)
+
     -- the end goes on
     goes_on : (so_told : View K V S → Type 0) (next : Finishing K V) → next.machine ≡ step_led.3 → stage ≡ n2 (Some next)
+        → ((b : ℕ) (x : Node K V) → shown_in made.looks b ≡ Some x → (value_at w2.memory b ≡ Some x) × IsAtTable step_led.3 step_led.3.stands b)
         → so_told record { slot = v.slot; under = v.under; map = v.map; by = v.by; own = v.own; work = Ends step_led.3; looks = made.looks; held = []; began = v.began; calls = v.calls }
         → Goes (Holds same hash fixed) KeepsFor s m2 id so_told
-    goes_on so_told next its came is =
+    goes_on so_told next its came table is =
         goes_by (Some next) (record { slot = v.slot; under = v.under; map = v.map; by = v.by; own = v.own; work = Ends step_led.3; looks = made.looks; held = []; began = v.began; calls = v.calls }) so_told came
         refl refl refl refl refl refl (λ other on. cc on) refl
         (record {
@@ -408,17 +422,18 @@ module _ {K V S : Type 0} (same : K → K → Bool) (hash : S → K → ℕ) (fi
           own = own_still (Some next);
           only = tt;
           held = tt;
+          table = table;
           pair = tt;
           idle = its_idle (Some next);
         })
         is
 
     by : (so_told : View K V S → Type 0) (end : Settled (Node K V)) → so_told (ended_after v made.looks step_led.3 end) → EndingCame same hash fixed.batch_size fixed.roots slot_of scene_now me d did.w2 did.deed step_led.3 stage end
-        → Goes (Holds same hash fixed) KeepsFor s m2 id so_told
-    by so_told settled.Goes is came = goes_on so_told _ refl came.1 is
-    by so_told settled.Waits is came = absurd came
-    by so_told (settled.Gave value) is (b, was, taken, came) = goes_on so_told _ refl came is
-    by so_told settled.Done is came =
+        → HasLooked end → Goes (Holds same hash fixed) KeepsFor s m2 id so_told
+    by so_told settled.Goes is came seen = goes_on so_told _ refl came.1 (looked_at settled.Goes seen) is
+    by so_told settled.Waits is came seen = absurd came
+    by so_told (settled.Gave value) is (b, was, taken, came) seen = goes_on so_told _ refl came (looked_at (settled.Gave value) seen) is
+    by so_told settled.Done is came seen =
         goes_by None (ended_after v made.looks step_led.3 settled.Done) so_told came.2 refl refl refl refl refl refl (λ other on. cc on) refl
         (record {
           slot = fits_now.slot;
@@ -435,26 +450,32 @@ module _ {K V S : Type 0} (same : K → K → Bool) (hash : S → K → ℕ) (fi
           own = own_still None;
           only = tt;
           held = tt;
+          table = tt;
           pair = tt;
           idle = its_idle None;
         })
         is
 
-    looks_same : (end : Settled (Node K V)) → (ended_after v made.looks step_led.3 end).looks ≡ made.looks
-    looks_same settled.Goes = refl
-    looks_same settled.Waits = refl
-    looks_same (settled.Gave value) = refl
-    looks_same settled.Done = refl
+    looks_same : (end : Settled (Node K V)) → HasLooked end → (ended_after v made.looks step_led.3 end).looks ≡ made.looks
+    looks_same settled.Goes seen = refl
+    looks_same settled.Waits seen = refl
+    looks_same (settled.Gave value) seen = refl
+    looks_same settled.Done seen = sym (none_looked scene_now.world.memory m2 machine step_led.3 made.looks seen)
+
+    seen_then : HasLooked step_led.4
+    seen_then = subst (λ (e : EndMap × Settled (Node K V)). AllLooked scene_now.world.memory (end_map_plan {K = K} {V = V} machine) m2 e made.looks) end_is made.seen
 
     goes : (op : Op (Node K V)) → Goes (Holds same hash fixed) KeepsFor s m2 id (told same hash v op out)
     goes op =
+        let same_looks = sym (looks_same step_led.4 seen_then) in
         by (told same hash v op out) step_led.4
         (subst (λ (k : SeatWork K V S). observed_by same hash v v.map k op out (ended_after v made.looks step_led.3 step_led.4)) (sym works) (
           (step_led.3, step_led.4),
-          subst (λ (l : List (ℕ × Node K V)). FollowsBy (shown_in l) (end_map_plan {K = K} {V = V} machine) out (step_led.3, step_led.4)) (sym (looks_same step_led.4))
+          subst (λ (l : List (ℕ × Node K V)). FollowsBy (shown_in l) (end_map_plan {K = K} {V = V} machine) out (step_led.3, step_led.4)) same_looks
               (subst (λ (e : EndMap × Settled (Node K V)). FollowsBy (shown_in made.looks) (end_map_plan {K = K} {V = V} machine) out e) end_is made.follows),
-          ap (λ (l : List (ℕ × Node K V)). ended_after v l step_led.3 step_led.4) (sym (looks_same step_led.4)),
-        )) step_led.8
+          ap (λ (l : List (ℕ × Node K V)). ended_after v l step_led.3 step_led.4) same_looks,
+          subst (λ (l : List (ℕ × Node K V)). MayFollow (shown_in l) (end_map_plan {K = K} {V = V} machine) out) same_looks made.may,
+        )) step_led.8 seen_then
 
 module _ {K S : Type 0} (V : Type 0) (same : K → K → Bool) (hash : S → K → ℕ) where
   pub endings_begin : EndingsBegin V same hash
@@ -467,3 +488,11 @@ module _ {K S : Type 0} (V : Type 0) (same : K → K → Bool) (hash : S → K �
         subst (λ (x : Mem (Node K V)). Can x op) (sym is) step.0,
         λ out m2 took. goes same hash fixed s h id v at_id machine works m2 out (step.1 out m2 (subst (λ (x : Mem (Node K V)). Took x op out m2) is took)) op,
       )
+
+  pub endings_are_shown : EndingsAreShown V same hash
+  endings_are_shown fixed id b v machine x works shown = (λ t h at. subst IsSome (sym (here t h at)) refl, λ y of. same_some y x (sym of.3 ∙ here of.0 of.1 of.2))
+    where
+      here : (t : State (Node K V) (View K V S) (MapsWorld K V S)) → Holds same hash fixed t → view_of t id ≡ Some v → value_at t.memory b ≡ Some x
+      here t h at =
+          ap (λ (m : Mem (Node K V)). value_at m b) h.so.memory
+          ∙ (subst (λ (k : SeatWork K V S). KnowsTable same hash t.world.scene k v.looks) works (h.so.seats id v at).table b x shown).0

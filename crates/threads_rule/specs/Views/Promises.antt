@@ -145,6 +145,12 @@ module _ {K S : Type 0} (V : Type 0) (same : K → K → Bool) (hash : S → K �
       (fixed : Fixed) (id : ℕ) (v : View K V S) (machine : EndMap) (op : Op (Node K V))
       → v.work ≡ Ends machine → op_in (end_map_plan machine) ≡ Some op → Allows (Holds same hash fixed) KeepsFor id v op (told same hash v op)
 
+  -- What the last step of one has looked at is there until its next one, with its value.
+  abbrev pub EndingsAreShown : Type 0
+  EndingsAreShown =
+      (fixed : Fixed) (id b : ℕ) (v : View K V S) (machine : EndMap) (x : Node K V) → v.work ≡ Ends machine → shown_in v.looks b ≡ Some x
+      → VisibleTo (Holds same hash fixed) id v b × ((y : Node K V) → IsValueOf (Holds same hash fixed) id v b y → y ≡ x)
+
   -- The next operation of a row that a seat has under way may be made at any moment,
   abbrev pub RowsContinue : Type 0
   RowsContinue =

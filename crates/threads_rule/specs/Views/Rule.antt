@@ -36,7 +36,7 @@ use Rattle.seize_views.specs.declared.view.SlotView.{SlotView}
 use Rattle.seize_views.specs.declared.view.SlotView.TheVariants as slot_view
 use Rattle.threads_rule.specs.Views.Begun.{machine_for}
 use Rattle.threads_rule.specs.Views.Listed.{Called, plain, calls_of, seen_of, AreNumbered, IsItsOwn, IsNewest}
-use Rattle.threads_rule.specs.Views.Looks.{shown_in}
+use Rattle.threads_rule.specs.Views.Looks.{shown_in, IsAtTable}
 use Rattle.threads_rule.specs.Views.Reclaims.{IsNextOf}
 use Rattle.threads_rule.specs.Views.Told.{pair_in}
 use Rattle.threads_rule.specs.declared.view.Map.{Map}
@@ -251,9 +251,10 @@ module _ {K V S : Type 0} (same : K → K → Bool) (hash : S → K → ℕ) whe
   abbrev pub IsInSection : Scene K V → Option (ℕ × ℕ) → SlotView (Node K V) → Option (Map S) → ℕ → Type 0
   IsInSection s under slot map b = (t : ℕ) × (section_of under slot ≡ Some t) × (holds t b s.world.log ≡ true) × IsOfMap map b s.world
 
-  -- the call that is under way has it: as its own pair, or to reclaim it next, by a row of the collector
+  -- the call that is under way has it: as its own pair, or to reclaim it next, by a row of the collector; or the end of a map, which has come to this table
   abbrev pub IsOfCall : SeatWork K V S → ℕ → Type 0
   IsOfCall (Calls machine) b = IsOwnOf machine b ⊎ IsNextOf machine b
+  IsOfCall (Ends machine) b = IsAtTable machine machine.stands b
   IsOfCall work b = ⊥
 
   -- the block is there with this value, and why it lasts until the seat's next step
@@ -263,6 +264,11 @@ module _ {K V S : Type 0} (same : K → K → Bool) (hash : S → K → ℕ) whe
   abbrev pub AllHeld : Scene K V → Option (ℕ × ℕ) → SlotView (Node K V) → Option (Map S) → SeatWork K V S → List (ℕ × Node K V) → Type 0
   AllHeld s under slot map work [] = Unit {0}
   AllHeld s under slot map work (look ∷ looks) = IsHeld s under slot map work look × AllHeld s under slot map work looks
+
+  -- the last step of the end of a map has looked at the table to which that has come, which is there with this value
+  abbrev pub KnowsTable : Scene K V → SeatWork K V S → List (ℕ × Node K V) → Type 0
+  KnowsTable s (Ends machine) looks = (b : ℕ) (x : Node K V) → shown_in looks b ≡ Some x → (value_at s.world.memory b ≡ Some x) × IsAtTable machine machine.stands b
+  KnowsTable s work looks = Unit {0}
 
   -- A call that a seat knows of is this one of the list: it began as that does on this map, in the slot of its caller, and has told the same last.
   pub record IsRun (call : Called K V) (run : BegunCall K V) : Type 0 where
@@ -288,6 +294,7 @@ module _ {K V S : Type 0} (same : K → K → Bool) (hash : S → K → ℕ) whe
     pub own : KnowsMap s v.own
     pub only : LooksAside v.under v.map v.work
     pub held : AllHeld s v.under v.slot v.map v.work v.held
+    pub table : KnowsTable s v.work v.looks
     pub pair : KnowsPair s (caller_at j (acts_in v.under v.slot)) v.map v.work v.calls
     pub idle : (t : ℕ) → IsSlot t → t ≢ acts_in v.under v.slot → IsIdle s (caller_at j t)
 

@@ -81,9 +81,9 @@ module _ {K V S : Type 0} where
   made_after v own m hasher looks opening (told_as.Refused fault) = record { slot = v.slot; under = v.under; map = v.map; by = v.by; own = v.own; work = Nothing; looks = looks; held = []; began = v.began; calls = v.calls }
   made_after v own m hasher looks opening told = record { slot = v.slot; under = v.under; map = v.map; by = v.by; own = v.own; work = Makes own m hasher opening; looks = looks; held = []; began = v.began; calls = v.calls }
 
-  -- and once the end of one has
+  -- and once the end of one has: its last step looks at nothing
   abbrev pub ended_after : View K V S → List (ℕ × Node K V) → EndMap → Settled (Node K V) → View K V S
-  ended_after v looks machine settled.Done = record { slot = v.slot; under = v.under; map = v.map; by = v.by; own = v.own; work = Nothing; looks = looks; held = []; began = v.began; calls = v.calls }
+  ended_after v looks machine settled.Done = record { slot = v.slot; under = v.under; map = v.map; by = v.by; own = v.own; work = Nothing; looks = []; held = []; began = v.began; calls = v.calls }
   ended_after v looks machine told = record { slot = v.slot; under = v.under; map = v.map; by = v.by; own = v.own; work = Ends machine; looks = looks; held = []; began = v.began; calls = v.calls }
 
 module _ {K V S : Type 0} (same : K → K → Bool) (hash : S → K → ℕ) where
@@ -99,6 +99,7 @@ module _ {K V S : Type 0} (same : K → K → Bool) (hash : S → K → ℕ) whe
       (end : NewMap × Told Setting) × FollowsBy (shown_in w.looks) (new_map_plan opening) out end × (w ≡ made_after v own m hasher w.looks end.0 end.1)
   observed_by v map (Ends machine) op out w =
       (end : EndMap × Settled (Node K V)) × FollowsBy (shown_in w.looks) (end_map_plan machine) out end × (w ≡ ended_after v w.looks end.0 end.1)
+      × MayFollow (shown_in w.looks) (end_map_plan machine) out
 
   abbrev pub told : View K V S → Op (Node K V) → Out (Node K V) → View K V S → Type 0
   told v op out w = observed_by v v.map v.work op out w
