@@ -23,7 +23,7 @@ use Rattle.owner_facts.proofs.Given.FinishesEnds.OrdersOn.{back_same}
 use Rattle.owner_facts.proofs.Descends.Lists.{length_read}
 use Rattle.owner_facts.proofs.Descends.Points.{To, falls_at, joined_once}
 use Rattle.owner_facts.proofs.Maps.Ends.Lower.{lower_in_one}
-use Rattle.many_acts.specs.Lefts.{is_along, behind, along_ahead, places_ahead, left_at, left_of, Lessens, GetsOn, EndsGetOn}
+use Rattle.many_acts.specs.Lefts.{is_along, behind, along_ahead, places_ahead, left_at, left_of, Lessens, IsOn, GetsOn, EndsGetOn}
 
 -- in a list in which none stands twice, what stands behind one of it
 behind_is : (x : ℕ) (before rest : List ℕ) → ((y : ℕ) → times y (before ++ x ∷ rest) ≤ 1) → behind x (before ++ x ∷ rest) ≡ rest
@@ -70,6 +70,10 @@ module _ {K V : Type 0} (same : K → K → Bool) (batch_size : ℕ) (w : World 
   are_few at.Sets point = (omega arith, omega arith, omega arith)
   are_few at.Frees point = (omega arith, omega arith, omega arith)
   are_few at.Over point = absurd point
+
+  is_on : (spot : Ending) → Point spot → IsOn spot
+  is_on at.Over point = point
+  is_on _ point = tt
 
   -- of a list as much is left as the memory has
   along_is : (pair : ℕ) → Point (at.Follows pair) → steps_left w.memory f.machine (at.Follows pair) ≡ suc (along_ahead f.waits (at.Follows pair))
@@ -189,7 +193,7 @@ module _ {K V : Type 0} (same : K → K → Bool) (batch_size : ℕ) (w : World 
     lessens at.Over q point point2 less = absurd point
 
     went : Steps Took value_at w.memory (end_map_plan f.machine) w2.memory (e, settled.Goes) → GetsOn {T = Node K V} f.machine (e, settled.Goes) (left_of f) (left_of g)
-    went s = lessens f.machine.stands e.stands facts.facts.point facts2.facts.point (falls (e, settled.Goes) s)
+    went s = (is_on same batch_size w2 i g facts2 e.stands facts2.facts.point, lessens f.machine.stands e.stands facts.facts.point facts2.facts.point (falls (e, settled.Goes) s))
 
   -- it has reclaimed a block
   module _ (b : ℕ) (facts2 : FinishingFacts same batch_size w2 i (record f { machine = e; back = f.back ++ b ∷ []; waits = waits })) where
@@ -199,7 +203,7 @@ module _ {K V : Type 0} (same : K → K → Bool) (batch_size : ℕ) (w : World 
     gave : (value : Node K V) → Steps Took value_at w.memory (end_map_plan f.machine) w2.memory (e, settled.Gave value) → GetsOn f.machine (e, settled.Gave value) (left_of f) (left_of then_f)
     gave value s =
         let few = are_few same batch_size w2 i then_f facts2 e.stands facts2.facts.point in
-        lower_in_one f.chart.past _ _ _ _ _ _ _ _ few.0 few.1 few.2 (inl (one_less (falls (e, settled.Gave value) s)))
+        (is_on same batch_size w2 i then_f facts2 e.stands facts2.facts.point, lower_in_one f.chart.past _ _ _ _ _ _ _ _ few.0 few.1 few.2 (inl (one_less (falls (e, settled.Gave value) s))))
       where
         all_is : length (back_of f.setting f.chart f.blocks facts.lists false) ≡ length (back_of f.setting f.chart f.blocks (λ t. []) false)
         all_is = ap length (sym (back_same f.setting f.chart f.blocks facts.lists (λ t. []) false refl))

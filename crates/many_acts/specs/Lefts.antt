@@ -47,10 +47,15 @@ left_of f = (left_at f f.machine.stands, along_ahead f.waits f.machine.stands)
 abbrev pub Lessens : Ending → Ending → ℕ × ℕ → ℕ × ℕ → Type 0
 Lessens from to before after = cond (is_along from && is_along to) ((after.0 ≡ before.0) × (after.1 < before.1)) (after.0 < before.0)
 
+-- it is not over
+abbrev pub IsOn : Ending → Type 0
+IsOn at.Over = ⊥
+IsOn _ = Unit {0}
+
 -- what a step that is not the last one leaves
 abbrev pub GetsOn : {T : Type 0} → EndMap → EndMap × Settled T → ℕ × ℕ → ℕ × ℕ → Type 0
-GetsOn c (d, settled.Goes) before after = Lessens c.stands d.stands before after
-GetsOn c (d, settled.Gave value) before after = after.0 < before.0
+GetsOn c (d, settled.Goes) before after = IsOn d.stands × Lessens c.stands d.stands before after
+GetsOn c (d, settled.Gave value) before after = IsOn d.stands × (after.0 < before.0)
 GetsOn c (d, _) before after = Unit {0}
 
 module _ {K : Type 0} (V : Type 0) (same : K → K → Bool) (batch_size : ℕ) where

@@ -19,6 +19,7 @@ use Rattle.seize_views.specs.declared.view.Why.TheVariants.{Retiring}
 use Rattle.threads_rule.specs.Views.Looks.{IsAtTable}
 use Rattle.threads_rule.specs.Views.Reclaims.{IsNextOf}
 use Rattle.threads_rule.specs.Views.Rule.{DoesSo, KnowsMap, IsOfCall}
+use Rattle.threads_rule.specs.declared.view.EndOfMap.{EndOfMap}
 use Rattle.threads_rule.specs.declared.view.Map.{Map}
 use Rattle.threads_rule.specs.declared.view.SeatWork.{SeatWork}
 use Rattle.threads_rule.specs.declared.view.SeatWork.TheVariants.{Nothing, Calls, Makes, Ends}
@@ -54,6 +55,6 @@ module _ {K V S : Type 0} (same : K → K → Bool) (hash : S → K → ℕ) (ba
   of_call_lasts under slot map (Makes mine m hasher opening) does knows of = absurd of
   of_call_lasts under slot map (Ends machine) does knows of =
       let d = does.1 in
-      let here : IsAtTable d.ending.machine d.ending.machine.stands b = subst (λ (e : EndMap). IsAtTable e e.stands b) (sym d.is) of in
+      let here : IsAtTable d.ending.machine d.ending.machine.stands b = subst (λ (e : EndMap). IsAtTable e e.stands b) (sym (ap (λ (x : EndOfMap). x.machine) d.is)) of in
       table_stays same batch_size n.world k d.ending (all2.facts k d.ending (leaves.enders k ne ∙ d.here)) b here
       ∙ sym (table_stays same batch_size s.world k d.ending (all.facts k d.ending d.here) b here) ∙ is
