@@ -3,7 +3,7 @@ use Rattle.std.specs.Prelude.{◌-◌, ◌/◌, ◌^◌, if◌then◌else◌}
 use Rattle.std.proofs.Common.{◌≡◌, ℕ, suc, ◌+◌, ◌*◌, ◌<◌, ◌≤◌, Bool, true, false, List, [], ◌∷◌, ◌++◌, ◌⊎◌, length, inl, inr, refl, sym, ap, subst, ◌∙◌, arith, eq-eqb}
 use Rattle.std.proofs.lemmas.Bool.{cases_eq, ne_eqb}
 use Rattle.std.proofs.lemmas.List.{length-append}
-use Rattle.run_shows.specs.Given.SeizeWordsMem.{Mem, Took, value_at}
+use Rattle.run_shows.specs.Given.SeizeWordsMem.{Took, value_at}
 use Rattle.run_shows.specs.Given.SeizeWordsPlan.{Steps}
 use Rattle.run_shows.specs.Given.SeizeDeclared.rows.settle.Settled.{Settled}
 use Rattle.run_shows.specs.Given.SeizeDeclared.rows.settle.Settled.TheVariants as settled
@@ -23,7 +23,7 @@ use Rattle.owner_facts.proofs.Given.FinishesEnds.OrdersOn.{back_same}
 use Rattle.owner_facts.proofs.Descends.Lists.{length_read}
 use Rattle.owner_facts.proofs.Descends.Points.{To, falls_at, joined_once}
 use Rattle.owner_facts.proofs.Maps.Ends.Lower.{lower_in_one}
-use Rattle.many_acts.specs.Lefts.{is_along, behind, along_ahead, places_ahead, left_at, left_of, Lessens, IsOn, GetsOn, EndsGetOn}
+use Rattle.many_acts.specs.Lefts.{behind, along_ahead, places_ahead, left_at, left_of, Lessens, IsOn, GetsOn, EndsGetOn}
 
 -- in a list in which none stands twice, what stands behind one of it
 behind_is : (x : ℕ) (before rest : List ℕ) → ((y : ℕ) → times y (before ++ x ∷ rest) ≤ 1) → behind x (before ++ x ∷ rest) ≡ rest

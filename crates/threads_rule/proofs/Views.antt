@@ -34,6 +34,7 @@ pub mod Loans
 pub mod Keeping
 pub mod Makings
 mod Taking
+pub mod EndBegins
 pub mod Endings
 pub mod RowFits
 pub mod RowSteps

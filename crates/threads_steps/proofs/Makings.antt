@@ -1,5 +1,5 @@
 -- A step of the making of a map, of a seat: it may be taken, and the seat knows how far it has come.
-use Rattle.std.specs.Prelude.{Option, Some, None, Result, Ok, Err}
+use Rattle.std.specs.Prelude.{Option, Some, None, Ok, Err}
 use Rattle.std.proofs.Common.{◌≡◌, ℕ, Bool, true, false, refl, subst, ap, ◌∙◌}
 use Rattle.seize_words.specs.OneMemory.Op.{Op, Out}
 use Rattle.seize_words.specs.OneMemory.Plan.{Plan, May, Steps}

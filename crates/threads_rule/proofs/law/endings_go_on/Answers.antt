@@ -1,4 +1,5 @@
-use Rattle.threads_rule.proofs.Views.Endings.{endings_begin, endings_go_on, endings_are_shown}
+use Rattle.threads_rule.proofs.Views.EndBegins.{endings_begin}
+use Rattle.threads_rule.proofs.Views.Endings.{endings_go_on, endings_are_shown}
 use Rattle.threads_rule.proofs.Views.Loans.{loans_begin, loans_end}
 use Rattle.threads_rule.proofs.law.endings_go_on.Goals as goal
 
