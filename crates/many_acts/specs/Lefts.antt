@@ -56,7 +56,8 @@ IsOn _ = Unit {0}
 abbrev pub GetsOn : {T : Type 0} → EndMap → EndMap × Settled T → ℕ × ℕ → ℕ × ℕ → Type 0
 GetsOn c (d, settled.Goes) before after = IsOn d.stands × Lessens c.stands d.stands before after
 GetsOn c (d, settled.Gave value) before after = IsOn d.stands × (after.0 < before.0)
-GetsOn c (d, _) before after = Unit {0}
+GetsOn c (d, settled.Waits) before after = ⊥
+GetsOn c (d, settled.Done) before after = Unit {0}
 
 module _ {K : Type 0} (V : Type 0) (same : K → K → Bool) (batch_size : ℕ) where
   -- The promise: so does each step of the end of a map, whether it goes on, or has reclaimed a block, in the world where it stands so then.
