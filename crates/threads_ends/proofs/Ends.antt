@@ -1,12 +1,13 @@
 -- A step of the end of a map, of the seat that owned it: it may be taken, and the seat knows how far it has come, and that less is left.
-use Rattle.std.specs.Prelude.{◌==◌, Option, Some, None, if◌then◌else◌}
-use Rattle.std.proofs.Common.{◌≡◌, ℕ, ◌≤◌, ◌<◌, Bool, true, false, List, [], ◌⊎◌, inl, refl, sym, subst, ap, ◌∙◌}
+use Rattle.std.specs.Prelude.{◌==◌, ◌&&◌, cond, Option, Some, None, if◌then◌else◌}
+use Rattle.std.proofs.Common.{◌≡◌, ℕ, suc, arith, ◌≤◌, ◌<◌, Bool, true, false, List, [], ◌⊎◌, inl, refl, sym, subst, ap, ◌∙◌}
 use Rattle.seize_words.specs.OneMemory.Op.{Op, Out, Found}
 use Rattle.seize_words.specs.OneMemory.Plan.{Plan, Then, Turn, Do, May, Steps, Ends as EndsAt}
 use Rattle.seize.specs.declared.rows.settle.Settled.{Settled}
 use Rattle.seize.specs.declared.rows.settle.Settled.TheVariants as settled
 use Rattle.map_tables.specs.declared.node.Node.{Node}
-use Rattle.papaya_raw.specs.EndMap.{end_map_plan, plan_at, follower_read, standing}
+use Rattle.map_tables.specs.declared.setting.Setting.{Setting}
+use Rattle.papaya_raw.specs.EndMap.{ending, end_map_plan, plan_at, follower_read}
 use Rattle.papaya_raw.specs.declared.machines.end_map.EndMap.{EndMap}
 use Rattle.papaya_raw.specs.declared.machines.end_map.Ending.{Ending}
 use Rattle.papaya_raw.specs.declared.machines.end_map.Ending.TheVariants as at
@@ -30,9 +31,9 @@ use Rattle.threads_steps.specs.Made.{CanMake, HasMade, IsSameSeat, looked_in}
 use Rattle.threads_steps.proofs.Calls.{has_alone}
 use Rattle.threads_steps.proofs.Given.CallKindsPlans.{LeavesValues, leaves_values, was_made, follows_one}
 use Rattle.threads_steps.proofs.Given.ViewsLaws.{endings_begin, endings_go_on}
-use Rattle.threads_ends.specs.Ending.{BeginsEnding, EndedSo, GetsOnBy, HasEndedOwn, IsEnding, StaysElse, along_in, left_in}
+use Rattle.threads_ends.specs.Ending.{BeginsEnding, EndedSo, GetsOnBy, HasEndedOwn, IsEnding, OwnsWith, StaysElse, along_in, is_done, left_in}
 use Rattle.threads_ends.specs.declared.ending.Ender.{Ender}
-use Rattle.seize_words.proofs.General.{some_there}
+use Rattle.seize_words.proofs.General.{same_some}
 
 -- it begins where nobody leans on the seat
 module _ {K V S : Type 0} (same : K → K → Bool) (hash : S → K → ℕ) (fixed : Fixed) (id : ℕ) (v : View K V S) where
@@ -207,3 +208,64 @@ stays_on u v w one other = record {
 
 pub stays_there : {K V S : Type 0} (v : View K V S) → StaysElse v v
 stays_there v = record { side = refl; map = refl; by = refl; own = refl; calls = refl }
+
+-- where a step does not tell that all is over, it goes on, and less is left
+module _ {K V S : Type 0} where
+  pub ends_still : (machine : EndMap) (told : Settled (Node K V)) (w : View K V S) → EndedSo machine told w → is_done told ≡ false → IsEnding machine w
+  ends_still machine settled.Goes w is goes = is
+  ends_still machine settled.Waits w is goes = absurd is
+  ends_still machine (settled.Gave value) w is goes = is
+  ends_still machine settled.Done w is goes = absurd (cc goes)
+
+  pub is_free : (machine : EndMap) (told : Settled (Node K V)) (w : View K V S) → EndedSo machine told w → is_done told ≡ true → w.work ≡ Nothing
+  is_free machine settled.Done w is over = is
+  is_free machine settled.Goes w is over = absurd (cc over)
+  is_free machine settled.Waits w is over = absurd is
+  is_free machine (settled.Gave value) w is over = absurd (cc over)
+
+  -- at no list
+  pub less_left : (c d : EndMap) (told : Settled (Node K V)) (v w : View K V S) → is_along c.stands ≡ false → EndedSo d told w → GetsOnBy c d told v w → is_done told ≡ false
+      → left_in w.work < left_in v.work
+  less_left c d settled.Goes v w off is less goes =
+      subst (λ (b : Bool). cond (b && is_along d.stands) ((left_in w.work ≡ left_in v.work) × (along_in w.work < along_in v.work)) (left_in w.work < left_in v.work)) off less.1
+  less_left c d settled.Waits v w off is less goes = absurd is
+  less_left c d (settled.Gave value) v w off is less goes = less.1
+  less_left c d settled.Done v w off is less goes = absurd (cc goes)
+
+  -- and along one, of which less is left
+  abbrev Along : (b : Bool) → View K V S → View K V S → Type 0
+  Along b v w = cond b ((left_in w.work ≡ left_in v.work) × (along_in w.work < along_in v.work)) (left_in w.work < left_in v.work)
+
+  pub along_less : (c d : EndMap) (told : Settled (Node K V)) (v w : View K V S) → is_along c.stands ≡ true → told ≡ settled.Goes → GetsOnBy c d told v w
+      → (left_in w.work ≤ left_in v.work)
+      × ((if is_along d.stands then suc (along_in w.work) else 0) < (if is_along c.stands then suc (along_in v.work) else 0))
+  along_less c d told v w on goes less =
+      subst (λ (b : Bool). (left_in w.work ≤ left_in v.work) × ((if is_along d.stands then suc (along_in w.work) else 0) < (if b then suc (along_in v.work) else 0))) (sym on)
+      (by (is_along d.stands) (subst (λ (b : Bool). Along (b && is_along d.stands) v w) on (subst (λ (t : Settled (Node K V)). GetsOnBy c d t v w) goes less).1))
+    where
+      by : (b : Bool) → Along b v w → (left_in w.work ≤ left_in v.work) × ((if b then suc (along_in w.work) else 0) < suc (along_in v.work))
+      by true is = let same_left = is.0 in let fewer = is.1 in (omega (arith, same_left), omega (arith, fewer))
+      by false is = (omega (arith, is), omega arith)
+
+-- the end as a whole, from where it began
+module _ {K V S : Type 0} where
+  -- it begins by this machine
+  pub begun_by : (setting : Setting) (v w : View K V S) → OwnsWith setting v → BeginsEnding v w → IsEnding (ending setting false) w
+  begun_by setting v w owns begins =
+      let one : owns.0 ≡ begins.0 = same_some owns.0 begins.0 (sym owns.1 ∙ begins.2) in
+      record {
+        end = record { machine = ending begins.0.setting false; left = begins.1; along = 0 };
+        works = ap (λ (x : View K V S). x.work) begins.3;
+        is = ap (λ (x : Setting). ending x false) (ap (λ (m : Map S). m.setting) (sym one) ∙ owns.2);
+        on = tt;
+      }
+
+  pub over_then : (u v w : View K V S) → BeginsEnding u v → StaysElse v w → w.work ≡ Nothing → HasEndedOwn u w
+  over_then u v w begins stays free = record {
+    free = free;
+    gone = stays.own ∙ ap (λ (x : View K V S). x.own) begins.3;
+    side = stays.side ∙ ap (λ (x : View K V S). side_of x) begins.3;
+    map = stays.map ∙ ap (λ (x : View K V S). x.map) begins.3;
+    by = stays.by ∙ ap (λ (x : View K V S). x.by) begins.3;
+    calls = stays.calls ∙ ap (λ (x : View K V S). x.calls) begins.3;
+  }

@@ -1,5 +1,5 @@
 -- What a seat knows while it ends the map that was its own, and once that is over.
-use Rattle.std.specs.Prelude.{◌≡◌, ℕ, Option, Some, None}
+use Rattle.std.specs.Prelude.{◌≡◌, ℕ, Bool, true, false, Option, Some, None}
 use Rattle.seize.specs.declared.rows.settle.Settled.{Settled}
 use Rattle.seize.specs.declared.rows.settle.Settled.TheVariants as settled
 use Rattle.map_tables.specs.declared.node.Node.{Node}
@@ -13,6 +13,11 @@ use Rattle.threads_steps.specs.Given.ViewsDeclared.view.Map.{Map}
 use Rattle.threads_steps.specs.Given.ViewsDeclared.view.View.{View}
 use Rattle.threads_steps.specs.Given.ViewsDeclared.view.SeatWork.{SeatWork}
 use Rattle.threads_steps.specs.Given.ViewsDeclared.view.SeatWork.TheVariants.{Nothing, Ends}
+
+-- a step has told that all is over
+abbrev pub is_done : {T : Type 0} → Settled T → Bool
+is_done settled.Done = true
+is_done _ = false
 
 module _ {K V S : Type 0} where
   -- it owns a map of this setting

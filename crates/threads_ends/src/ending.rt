@@ -1,6 +1,6 @@
 //! A seat on an errand ends the map that is its own, by the steps of the machine of that, without waiting and without asking for memory.
 ghost use Rattle.std.specs.Prelude.{◌≡◌, ◌≢◌, ◌≤◌, IsSome, None, false, true};
-ghost use Rattle.threads_ends.specs.Ending.{BeginsEnding, EndedSo, GetsOnBy, IsEnding, StaysElse, left_in};
+ghost use Rattle.threads_ends.specs.Ending.{BeginsEnding, EndedSo, GetsOnBy, IsEnding, StaysElse, is_done, left_in};
 ghost use Rattle.threads_steps.specs.Given.ActsLefts.{is_along};
 ghost use Rattle.threads_steps.specs.Given.ViewsDeclared.view.SeatWork.TheVariants.{Nothing as NoWork};
 ghost use Rattle.threads_steps.specs.Made.{IsSameSeat};
@@ -48,6 +48,23 @@ pub(crate) fn begins<K: Eq, V, S: Hashes<K>>(
     blocks.part::<EndingBegins>(seat);
 }
 
+/// Tells whether the end goes along a list that a table carries.
+fn follows(machine: &EndMap) -> bool
+    ensures { result ≡ is_along machine.now.stands }
+{
+    matches!(machine.stands, Ending::Follows { .. })
+}
+
+/// Tells whether the end is over by this step, and lets go of what that has reclaimed.
+fn is_over<T: Drop>(told: Settled<T>) -> bool
+    ensures { result ≡ is_done told }
+{
+    match told {
+        Settled::Done => true,
+        Settled::Goes | Settled::Waits | Settled::Gave(_) => false,
+    }
+}
+
 impl<'a, K: Eq + Drop, V: Drop, S: Hashes<K>> Ender<'a, K, V, S> {
     /// Takes the next step of the end.
     fn steps(&mut self, machine: &mut EndMap) -> Settled<Node<K, V>>
@@ -70,11 +87,8 @@ impl<'a, K: Eq + Drop, V: Drop, S: Hashes<K>> Ender<'a, K, V, S> {
         ensures stays { StaysElse self.old.within.seat.now.view self.new.within.seat.now.view }
         ensures same { IsSameSeat self.old.within self.new.within }
     {
-        'list: while matches!(machine.stands, Ending::Follows { .. }) {
-            match self.steps(machine) {
-                Settled::Goes => {}
-                _ => unreachable!(),
-            }
+        'list: while follows(machine) {
+            drop(self.steps(machine));
         }
     }
 
@@ -87,12 +101,10 @@ impl<'a, K: Eq + Drop, V: Drop, S: Hashes<K>> Ender<'a, K, V, S> {
         ensures same { IsSameSeat self.old.within self.new.within }
     {
         let mut machine = machine;
-        'steps: loop {
-            match self.steps(&mut machine) {
-                Settled::Goes => {}
-                Settled::Gave(value) => drop(value),
-                Settled::Done => return,
-                Settled::Waits => unreachable!(),
+        'until: loop {
+            let told = self.steps(&mut machine);
+            if is_over(told) {
+                return;
             }
             self.goes_along(&mut machine);
         }
