@@ -1,5 +1,5 @@
 -- A step of the end of a map, of the seat that owned it: it may be taken, and the seat knows how far it has come, and that less is left.
-use Rattle.std.specs.Prelude.{◌==◌, ◌&&◌, cond, Option, Some, None, if◌then◌else◌}
+use Rattle.std.specs.Prelude.{◌==◌, ◌&&◌, cond, Option, Some, IsSome, if◌then◌else◌}
 use Rattle.std.proofs.Common.{◌≡◌, ℕ, suc, arith, ◌≤◌, ◌<◌, Bool, true, false, List, [], ◌⊎◌, inl, refl, sym, subst, ap, ◌∙◌}
 use Rattle.seize_words.specs.OneMemory.Op.{Op, Out, Found}
 use Rattle.seize_words.specs.OneMemory.Plan.{Plan, Then, Turn, Do, May, Steps, Ends as EndsAt}
@@ -18,7 +18,6 @@ use Rattle.seize_views.specs.declared.view.Fixed.{Fixed}
 use Rattle.seize_views.specs.declared.view.SlotView.TheVariants.{Rests}
 use Rattle.seize_views.proofs.Views.Makes.{IsDo}
 use Rattle.threads_steps.specs.Given.ActsLefts.{is_along, IsOn, GetsOn}
-use Rattle.threads_steps.specs.Given.ViewsBegun.{ending_own}
 use Rattle.threads_steps.specs.Given.ViewsLooks.{shown_in, MayFollow}
 use Rattle.threads_steps.specs.Given.ViewsRule.{Holds, KeepsFor, Leans, side_of}
 use Rattle.threads_steps.specs.Given.ViewsTold.{observed_by, ended_after}
@@ -26,14 +25,14 @@ use Rattle.threads_steps.specs.Given.ViewsDeclared.view.EndOfMap.{EndOfMap}
 use Rattle.threads_steps.specs.Given.ViewsDeclared.view.Map.{Map}
 use Rattle.threads_steps.specs.Given.ViewsDeclared.view.View.{View}
 use Rattle.threads_steps.specs.Given.ViewsDeclared.view.SeatWork.{SeatWork}
-use Rattle.threads_steps.specs.Given.ViewsDeclared.view.SeatWork.TheVariants.{Nothing, Ends}
+use Rattle.threads_steps.specs.Given.ViewsDeclared.view.SeatWork.TheVariants.{Nothing}
 use Rattle.threads_steps.specs.Made.{CanMake, HasMade, IsSameSeat, looked_in}
 use Rattle.threads_steps.proofs.Calls.{has_alone}
 use Rattle.threads_steps.proofs.Given.CallKindsPlans.{LeavesValues, leaves_values, was_made, follows_one}
 use Rattle.threads_steps.proofs.Given.ViewsLaws.{endings_begin, endings_go_on}
 use Rattle.threads_ends.specs.Ending.{BeginsEnding, EndedSo, GetsOnBy, HasEndedOwn, IsEnding, OwnsWith, StaysElse, along_in, is_done, left_in}
 use Rattle.threads_ends.specs.declared.ending.Ender.{Ender}
-use Rattle.seize_words.proofs.General.{same_some}
+use Rattle.seize_words.proofs.General.{same_some, some_is}
 
 -- it begins where nobody leans on the seat
 module _ {K V S : Type 0} (same : K → K → Bool) (hash : S → K → ℕ) (fixed : Fixed) (id : ℕ) (v : View K V S) where
@@ -249,6 +248,10 @@ module _ {K V S : Type 0} where
 
 -- the end as a whole, from where it began
 module _ {K V S : Type 0} where
+  -- who owns one of this setting owns one
+  pub owns_one : (setting : Setting) (v : View K V S) → OwnsWith setting v → IsSome v.own
+  owns_one setting v owns = some_is v.own owns.0 owns.1
+
   -- it begins by this machine
   pub begun_by : (setting : Setting) (v w : View K V S) → OwnsWith setting v → BeginsEnding v w → IsEnding (ending setting false) w
   begun_by setting v w owns begins =

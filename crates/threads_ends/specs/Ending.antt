@@ -1,5 +1,5 @@
 -- What a seat knows while it ends the map that was its own, and once that is over.
-use Rattle.std.specs.Prelude.{◌≡◌, ℕ, Bool, true, false, Option, Some, None}
+use Rattle.std.specs.Prelude.{◌≡◌, ℕ, Bool, true, false, Some, None}
 use Rattle.seize.specs.declared.rows.settle.Settled.{Settled}
 use Rattle.seize.specs.declared.rows.settle.Settled.TheVariants as settled
 use Rattle.map_tables.specs.declared.node.Node.{Node}
