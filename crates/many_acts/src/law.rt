@@ -2,5 +2,6 @@
 
 pub mod acts;
 pub mod carries;
+pub mod lefts;
 pub mod links;
 pub mod looks;

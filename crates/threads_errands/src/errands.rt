@@ -49,7 +49,7 @@ impl<'h, K: Eq + Drop, V: Drop, S: Hashes<K>> Errand<Node<K, V>, OfMaps<S>> for 
     ) -> Result<Setting, Fault> {
         let Makes { hasher, opening } = self;
         let mut within = Within::new(blocks, seat, 0);
-        within.makes_map(hasher, opening)
+        within.makes_map(false, hasher, opening)
     }
 }
 

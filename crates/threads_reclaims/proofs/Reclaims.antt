@@ -3,7 +3,6 @@ pub mod Inside
 pub mod Counted
 pub mod More
 pub mod Free
-pub mod Owners
 pub mod Begun
 pub mod Taking
 pub mod Seeks

@@ -19,6 +19,7 @@ mod Settled
 mod RowLooks
 pub mod Starts
 pub mod Leaves
+mod Tables
 mod Lasts
 pub mod Listed
 mod Moved
@@ -33,6 +34,7 @@ pub mod Loans
 pub mod Keeping
 pub mod Makings
 mod Taking
+pub mod EndBegins
 pub mod Endings
 pub mod RowFits
 pub mod RowSteps

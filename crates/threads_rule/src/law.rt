@@ -1,7 +1,7 @@
 //! What is promised of the rule of maps.
 ghost use Rattle.std.specs.Prelude.{ℕ, Bool};
 ghost use Rattle.threads_rule.specs.Views.Promises.{RulesStart, SeatsCome, CallsContinue, CallsTurn, HeldAreShown, CallsBegin, CallsAreReplied, CallsAreAsked, MapsAreHandedOn, MakingsBegin, MakingsContinue};
-ghost use Rattle.threads_rule.specs.Views.Promises.{RowsContinue, RowsTurn, SettlingsBegin, LookedAreShown, LeaningsBegin, LeaningsEnd, LoansBegin, LoansEnd, HeldAreKept, KeptAreThere, EndingsBegin, EndingsContinue};
+ghost use Rattle.threads_rule.specs.Views.Promises.{RowsContinue, RowsTurn, SettlingsBegin, LookedAreShown, LeaningsBegin, LeaningsEnd, LoansBegin, LoansEnd, HeldAreKept, KeptAreThere, EndingsBegin, EndingsContinue, EndingsAreShown};
 
 /// Keys may be compared, and hashed by a hasher, in any way. The rule may start where each hasher is lawful, and seats may come; and the next step of a call that a
 /// seat has under way, with an operation or without, may be taken at any moment, whatever the other seats do. What a step
@@ -29,10 +29,11 @@ pub fn makings_go_on<K, V, S>()
     ensures on { (same : K → K → Bool) (hash : S → K → ℕ) → MakingsContinue V same hash }
 {}
 
-/// The seat that owns a map may begin to end it, where nobody leans on it, and the next operation of an end may be made at any moment, whatever the other seats do; and a seat may come to lean on it, and knows the map then, and back.
+/// The seat that owns a map may begin to end it, where nobody leans on it, and the next operation of an end may be made at any moment, whatever the other seats do, and what a step of it has looked at is there until its next one; and a seat may come to lean on it, and knows the map then, and back.
 pub fn endings_go_on<K, V, S>()
     ensures begin { (same : K → K → Bool) (hash : S → K → ℕ) → EndingsBegin V same hash }
     ensures on { (same : K → K → Bool) (hash : S → K → ℕ) → EndingsContinue V same hash }
+    ensures shown { (same : K → K → Bool) (hash : S → K → ℕ) → EndingsAreShown V same hash }
     ensures lent { (same : K → K → Bool) (hash : S → K → ℕ) → LoansBegin V same hash }
     ensures back { (same : K → K → Bool) (hash : S → K → ℕ) → LoansEnd V same hash }
 {}

@@ -9,4 +9,4 @@ mod view;
 
 pub use law::{calls_begin, calls_go_on, endings_go_on, leanings_begin, makings_go_on, rows_go_on};
 pub use maps::OfMaps;
-pub use view::{BegunCall, Map, SeatWork, View};
+pub use view::{BegunCall, EndOfMap, Map, SeatWork, View};

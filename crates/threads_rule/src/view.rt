@@ -57,5 +57,15 @@ pub enum SeatWork<K, V, S> {
     /// It makes the map of this number, with this hasher, for itself or for good, and holds no slot.
     Makes(bool, u64, S, NewMap),
     /// It ends the map that was its own, and holds no slot.
-    Ends(EndMap),
+    Ends(EndOfMap),
+}
+
+/// The end of a map that is under way.
+pub struct EndOfMap {
+    /// How far it has come.
+    pub machine: EndMap,
+    /// How much is left: each step that goes on lowers it, but for those along a list that a table carries.
+    pub left: u64,
+    /// How much of that list is left, which those lower.
+    pub along: u64,
 }

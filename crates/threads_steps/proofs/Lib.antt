@@ -1,5 +1,5 @@
 pub mod Tellings
-mod Calls
+pub mod Calls
 mod Holders
 pub mod Calling
 pub mod Forms

@@ -13,6 +13,7 @@ pub use Rattle.threads_rule.specs.Errands.Looking as ErrandsLooking
 pub use Rattle.threads_rule.specs.Errands.Making as ErrandsMaking
 pub use Rattle.threads_rule.specs.Errands.Sweeping as ErrandsSweeping
 pub use Rattle.threads_rule.specs.Given.ActsActs
+pub use Rattle.threads_rule.specs.Given.ActsLefts
 pub use Rattle.threads_rule.specs.Views.Begun as ViewsBegun
 pub use Rattle.threads_rule.specs.Views.Looks as ViewsLooks
 pub use Rattle.threads_rule.specs.Views.Notes as ViewsNotes

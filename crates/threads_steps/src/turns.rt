@@ -27,15 +27,16 @@ impl<K: Eq, V, S: Hashes<K>, B: Wants<K, V>> Turn<Fixed, View<K, V, S>> for Begi
     ghost to = { λ _. Begins K.eq S.hash B.wanted };
 }
 
-/// By which machine a map may be made, with which hasher.
+/// By which machine a map may be made, for its maker or for good, with which hasher.
 pub trait Plans<S> {
+    ghost use Rattle.std.specs.Prelude.{Bool};
     ghost use Rattle.map_machines.specs.declared.new_map.NewMap.{NewMap};
 
-    ghost plans: { S → NewMap → Type 0 };
+    ghost plans: { Bool → S → NewMap → Type 0 };
 }
 
 impl<S> Plans<S> for Brand {
-    ghost plans = { λ _ _. ⊥ };
+    ghost plans = { λ _ _ _. ⊥ };
 }
 
 /// The making of a map begins.

@@ -22,16 +22,14 @@ use Rattle.seize_views.specs.declared.view.Fixed.{Fixed}
 use Rattle.seize_reclaims.specs.declared.alone.Alone.{Alone}
 use Rattle.seize_reclaims.specs.declared.alone.Alone.TheVariants.{Reclaims}
 use Rattle.threads_rule.specs.Views.Notes.{SeatIsQuiescent}
-use Rattle.threads_rule.specs.Views.Rule.{MapsWorld, Holds, AreRuns, IsFresh, runs_of}
-use Rattle.threads_rule.specs.Views.Listed.{calls_of}
+use Rattle.threads_rule.specs.Views.Rule.{MapsWorld, Holds, IsFresh}
 use Rattle.threads_rule.specs.declared.view.View.{View}
 use Rattle.threads_reclaims.specs.Reclaims.Rule.{EndsIn, AreAsWere, Reclaiming, ReclaimsAt, IsOne, plainly, inside, freed, kept_of, acts_of}
 use Rattle.threads_reclaims.specs.declared.sole.Sole.{Sole}
 use Rattle.threads_reclaims.specs.declared.sole.Sole.TheVariants.{Acts, Left}
 use Rattle.threads_reclaims.proofs.Reclaims.Counted.{ends_in}
-use Rattle.threads_reclaims.proofs.Reclaims.Free.{so, all_idle, all_free}
+use Rattle.threads_reclaims.proofs.Reclaims.Free.{so, all_idle, all_free, rests_so}
 use Rattle.threads_reclaims.proofs.Reclaims.Inside.{set_but, one_on, at_inside, from_inside}
-use Rattle.seize_acts.specs.Acts.Stays.{how_many, is_end_of_owner}
 use Rattle.threads_reclaims.proofs.Reclaims.More.{IsAside, further, led_further, still_so}
 
 pub some_none : {A : Type 0} (o : Option A) → IsSome o → is_none o ≡ Bool.false
@@ -53,11 +51,12 @@ module _ {K V S : Type 0} (same : K → K → Bool) (hash : S → K → ℕ) (fi
       → AreAsWere same hash fixed (view_of s) s.world.doings h.reached.1 h.reached.0.0
   are_as_were s h idle =
       let is = so same hash fixed s h idle in record {
-        maps = λ j v at. (is.seats j v at).map;
+        maps = λ j v at. (let f = is.seats j v at in (f.map, f.own));
+        alone = λ j v at. (rests_so v (idle j v at)).3;
+        apart = is.maps;
         fresh = is.fresh;
-        unended = is.unended;
         own = h.own;
-        calls = λ j. subst (λ (x : Scene K V). AreRuns same hash x (calls_of j s.world.doings h.reached.1 []) (runs_of (view_of s j))) h.scene (h.calls j);
+        calls = h.calls;
       }
 
   module _ (s : State (Node K V) (Sole K V S) (MapsWorld K V S)) (m : Mem (Node K V)) (id r : ℕ) (a : Alone (Node K V)) (v w : View K V S) (w1 : MapsWorld K V S)
@@ -110,8 +109,7 @@ module _ {K V S : Type 0} (same : K → K → Bool) (hash : S → K → ℕ) (fi
           subst (λ (vs : List (View K V S)). AreAsWere same hash fixed (λ j. slice_get vs j) (w1.doings ++ doing ∷ []) next.1 there) (sym (map-set plainly s.views id acting))
           (still_so same hash fixed h.course w1.doings h.reached h.led doing may aside
           (λ n (standing : Standing K) at. (standing, ap (λ (x : Scene K V). x.maps n) same_scene ∙ at, refl, refl))
-          (λ k fresh. subst (λ (x : Scene K V). IsFresh x k) (sym same_scene) fresh) (λ o. ap (λ (x : Scene K V). how_many (is_end_of_owner o) x.world.log) same_scene)
-          (view_of before) (are_as_were before h idle))
+          (λ k fresh. subst (λ (x : Scene K V). IsFresh x k) (sym same_scene) fresh) (view_of before) (are_as_were before h idle))
 
       begins_all : Reclaiming same hash fixed then_
       begins_all = record {

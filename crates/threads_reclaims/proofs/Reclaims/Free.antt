@@ -11,31 +11,27 @@ use Rattle.seize_acts.specs.Acts.Acts.{rests}
 use Rattle.seize_seats.specs.Seats.State.{State, view_of}
 use Rattle.seize_views.specs.Views.Rows.{IsQuiescent, row_of}
 use Rattle.seize_views.specs.declared.view.Fixed.{Fixed}
-use Rattle.seize_views.specs.declared.view.SlotView.{SlotView}
-use Rattle.seize_views.specs.declared.view.SlotView.TheVariants.{Inside}
 use Rattle.seize_reclaims.proofs.Renews.One.{no_row}
-use Rattle.threads_rule.specs.Views.Notes.{busy, row_known, SeatIsQuiescent}
+use Rattle.threads_rule.specs.Views.Notes.{knows_by, row_known, SeatIsQuiescent}
+use Rattle.threads_rule.specs.Views.Resting.{busy_not}
 use Rattle.threads_rule.specs.Views.Rule.{MapsWorld, Holds, AreSo, Fits, HasRow, DoesSo, IsIdle, IsSlot, acts_in, caller_at}
 use Rattle.threads_rule.specs.declared.view.View.{View}
 use Rattle.threads_rule.specs.declared.view.SeatWork.{SeatWork}
-use Rattle.threads_rule.specs.declared.view.SeatWork.TheVariants.{Nothing, Calls, Makes}
+use Rattle.threads_rule.specs.declared.view.SeatWork.TheVariants.{Nothing, Calls, Makes, Ends}
 use Rattle.threads_rule.proofs.Views.Numbers.{its_caller, its_place}
 
--- who is busy does not rest
-busy_not : {T : Type 0} (slot : SlotView T) → IsQuiescent (busy slot) → ⊥
-busy_not (Inside t has) is = is
-busy_not _ is = is
-
 -- whoever rests leans on nobody, and has neither a call nor a row
-pub rests_so : {K V S : Type 0} (v : View K V S) → SeatIsQuiescent v → (v.under ≡ None) × (v.work ≡ Nothing) × (row_of v.slot ≡ Rests)
-rests_so {K} {V} {S} v is = by v.under v.work refl refl is
+pub rests_so : {K V S : Type 0} (v : View K V S) → SeatIsQuiescent v → (v.under ≡ None) × (v.work ≡ Nothing) × (row_of v.slot ≡ Rests) × (v.by ≡ None)
+rests_so {K} {V} {S} v is = by v.under v.work v.by refl refl refl is
   where
-    by : (under : Option (ℕ × ℕ)) (work : SeatWork K V S) → v.under ≡ under → v.work ≡ work → IsQuiescent (row_known {S = S} under v.slot work)
-        → (v.under ≡ None) × (v.work ≡ Nothing) × (row_of v.slot ≡ Rests)
-    by (Some leant) work e f q = absurd q
-    by None Nothing e f q = (e, f, no_row v.slot q)
-    by None (Calls machine) e f q = absurd (busy_not v.slot q)
-    by None (Makes m hasher opening) e f q = absurd q
+    by : (under : Option (ℕ × ℕ)) (work : SeatWork K V S) (owner : Option ℕ) → v.under ≡ under → v.work ≡ work → v.by ≡ owner → IsQuiescent (knows_by owner (row_known {S = S} under v.slot work))
+        → (v.under ≡ None) × (v.work ≡ Nothing) × (row_of v.slot ≡ Rests) × (v.by ≡ None)
+    by under work (Some owner) e f g q = absurd (busy_not (row_known {S = S} under v.slot work) q)
+    by (Some leant) work None e f g q = absurd q
+    by None Nothing None e f g q = (e, f, no_row v.slot q, g)
+    by None (Calls machine) None e f g q = absurd (busy_not v.slot q)
+    by None (Makes mine m hasher opening) None e f g q = absurd q
+    by None (Ends machine) None e f g q = absurd q
 
 module _ {K V S : Type 0} (same : K → K → Bool) (hash : S → K → ℕ) (fixed : Fixed) (s : State (Node K V) (View K V S) (MapsWorld K V S)) (h : Holds same hash fixed s)
     (idle : (j : ℕ) (v : View K V S) → view_of s j ≡ Some v → SeatIsQuiescent v) where
@@ -55,7 +51,7 @@ module _ {K V S : Type 0} (same : K → K → Bool) (hash : S → K → ℕ) (fi
           f : Fits same hash scene j v
           f = so.seats j v e
 
-          r : (v.under ≡ None) × (v.work ≡ Nothing) × (row_of v.slot ≡ Rests)
+          r : (v.under ≡ None) × (v.work ≡ Nothing) × (row_of v.slot ≡ Rests) × (v.by ≡ None)
           r = rests_so v (idle j v e)
 
           row : HasRow scene (caller_at j (acts_in v.under v.slot)) v.slot

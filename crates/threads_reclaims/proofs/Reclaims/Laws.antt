@@ -33,7 +33,8 @@ use Rattle.seize_reclaims.specs.Renews.Rule.{IsShown}
 use Rattle.seize_reclaims.specs.declared.alone.Alone.{Alone}
 use Rattle.seize_reclaims.specs.declared.alone.Alone.TheVariants.{Registers, Reclaims}
 use Rattle.threads_rule.specs.Views.Begun.{with_slot}
-use Rattle.threads_rule.specs.Views.Rule.{MapsWorld, Holds, KeepsFor, Leans, LeansOn}
+use Rattle.threads_rule.specs.Views.Resting.{upright}
+use Rattle.threads_rule.specs.Views.Rule.{MapsWorld, Holds, KeepsFor, Leans}
 use Rattle.threads_rule.specs.declared.view.View.{View}
 use Rattle.threads_rule.specs.declared.view.SeatWork.{SeatWork}
 use Rattle.threads_rule.specs.declared.view.SeatWork.TheVariants.{Nothing}
@@ -106,11 +107,11 @@ module _ {K S : Type 0} (V : Type 0) (same : K → K → Bool) (hash : S → K �
   pub one_begins : OneBegins V same hash
   one_begins fixed id v none s h at_id idle = (k.1, inl record { holds = subst (λ (vs : List (View K V S)). Holds same hash fixed record { memory = s.memory; views = vs; world = k.1 }) (sym views_are) begun; seats = seats; one = one })
     where
-      rest : (v.under ≡ None) × (v.work ≡ Nothing) × (row_of v.slot ≡ Rests)
+      rest : (v.under ≡ None) × (v.work ≡ Nothing) × (row_of v.slot ≡ Rests) × (v.by ≡ None)
       rest = rests_so v (idle id v at_id)
 
       unlent : IsUnlent Leans id s
-      unlent j x at leans = subst (λ (o : Option (ℕ × ℕ)). LeansOn o id) (rests_so x (idle j x at)).0 leans
+      unlent j x at leans = upright x id (idle j x at) leans
 
       seeks : SlotView (Node K V)
       seeks = slot_view.Registers (seeker_at 0 register_at.Begin)
@@ -120,8 +121,9 @@ module _ {K S : Type 0} (V : Type 0) (same : K → K → Bool) (hash : S → K �
 
       is : k.0 ≡ seeking v
       is =
-          k.4 ∙ ap (λ (o : Option (ℕ × ℕ)). record { slot = seeks; under = o; map = v.map; work = v.work; looks = []; held = []; began = v.began; calls = v.calls }) rest.0
-          ∙ ap (λ (x : SeatWork K V S). record { slot = seeks; under = None; map = v.map; work = x; looks = []; held = []; began = v.began; calls = v.calls }) rest.1
+          k.4 ∙ ap (λ (o : Option (ℕ × ℕ)). record { slot = seeks; under = o; map = v.map; by = v.by; own = v.own; work = v.work; looks = []; held = []; began = v.began; calls = v.calls }) rest.0
+          ∙ ap (λ (x : SeatWork K V S). record { slot = seeks; under = None; map = v.map; by = v.by; own = v.own; work = x; looks = []; held = []; began = v.began; calls = v.calls }) rest.1
+          ∙ ap (λ (o : Option ℕ). record { slot = seeks; under = None; map = v.map; by = o; own = v.own; work = Nothing; looks = []; held = []; began = v.began; calls = v.calls }) rest.3
 
       begun : Holds same hash fixed record { memory = s.memory; views = slice_set s.views id (seeking v); world = k.1 }
       begun = subst (λ (x : View K V S). Holds same hash fixed record { memory = s.memory; views = slice_set s.views id x; world = k.1 }) is k.2
@@ -138,7 +140,7 @@ module _ {K S : Type 0} (V : Type 0) (same : K → K → Bool) (hash : S → K �
 
       seats : (j : ℕ) (x : Sole K V S) → slice_get (slice_set (map Left s.views) id (one_first fixed v)) j ≡ Some x → TakesAt fixed s.memory x
       seats =
-          set_but (λ _ (x : Sole K V S). TakesAt fixed s.memory x) (map Left s.views) id (Left v) (one_first fixed v) here (refl, refl, refl, refl, refl, refl)
+          set_but (λ _ (x : Sole K V S). TakesAt fixed s.memory x) (map Left s.views) id (Left v) (one_first fixed v) here (refl, refl, refl, refl, refl, refl, refl)
           (λ j x ne at. (let g = mapped_at Left s.views j x at in subst (λ (y : Sole K V S). TakesAt fixed s.memory y) g.2 (idle j g.0 g.1)))
 
       is_id : (j r : ℕ) (a : Alone (Node K V)) (u : View K V S) → slice_get (slice_set (map Left s.views) id (one_first fixed v)) j ≡ Some (Acts a r u) → j ≡ id

@@ -26,7 +26,7 @@ use Rattle.seize_reclaims.specs.Renews.Rule.{SeeksAt}
 use Rattle.seize_reclaims.specs.declared.alone.Alone.{Alone}
 use Rattle.seize_reclaims.specs.declared.alone.Alone.TheVariants.{Registers, Reclaims}
 use Rattle.seize_reclaims.proofs.Renews.Registering.{IsWell, no_word}
-use Rattle.threads_rule.specs.Views.Notes.{SeatIsQuiescent, row_known}
+use Rattle.threads_rule.specs.Views.Notes.{SeatIsQuiescent, knows_by, row_known}
 use Rattle.threads_rule.specs.Views.Rule.{MapsWorld, Holds, KeepsFor}
 use Rattle.threads_rule.specs.Views.Told.{told, observed_by}
 use Rattle.threads_rule.specs.declared.view.View.{View}
@@ -82,11 +82,14 @@ module _ {K V S : Type 0} (same : K → K → Bool) (hash : S → K → ℕ) (fi
     work_is : g.0.work ≡ Nothing
     work_is = ap (λ (x : View K V S). x.work) observed.2
 
+    by_is : g.0.by ≡ None
+    by_is = ap (λ (x : View K V S). x.by) observed.2 ∙ t.5
+
     short : (c.enters ≡ Bool.false) × IsSeeking c.stands
     short = subst IsShort t.2 (h.holds.rows id v (at_inside s id acting at_id)).short
 
     well : IsWell m row.0
-    well = well_after s.memory m c short.0 row.0 c.stands short.1 t.5 op out makes took row.1
+    well = well_after s.memory m c short.0 row.0 c.stands short.1 t.6 op out makes took row.1
 
     abbrev Gone : Type 0
     Gone = Goes Hold NobodyKeeps s m id (one_told acting op out)
@@ -100,7 +103,7 @@ module _ {K V S : Type 0} (same : K → K → Bool) (hash : S → K → ℕ) (fi
           g.1,
           inl record {
             holds = subst (Holds same hash fixed) (sym (inside_after s m id next g.1)) g.2;
-            seats = set_but (λ _ (x : Sole K V S). TakesAt fixed m x) s.views id acting next at_id (t.0, t.1, slot, under_is, work_is, seeks) (λ j x ne at. takes j x m ne at);
+            seats = set_but (λ _ (x : Sole K V S). TakesAt fixed m x) s.views id acting next at_id (t.0, t.1, slot, under_is, work_is, by_is, seeks) (λ j x ne at. takes j x m ne at);
             one = one_on s m id r (Registers c size) v next g.1 at_id h.one;
           },
           λ j k b u o ne ne2 at at2 none. none,
@@ -145,8 +148,9 @@ module _ {K V S : Type 0} (same : K → K → Bool) (hash : S → K → ℕ) (fi
     -- who holds a slot, or none, rests
     quiet : (x : SlotView (Node K V)) → g.0.slot ≡ x → IsQuiescent x → SeatIsQuiescent g.0
     quiet x e is =
-        subst (λ (o : Option (ℕ × ℕ)). IsQuiescent (row_known {S = S} o g.0.slot g.0.work)) (sym under_is)
-        (subst (λ (k : SeatWork K V S). IsQuiescent (row_known {S = S} None g.0.slot k)) (sym work_is) (subst (λ (y : SlotView (Node K V)). IsQuiescent y) (sym e) is))
+        subst (λ (o : Option ℕ). IsQuiescent (knows_by o (row_known {S = S} g.0.under g.0.slot g.0.work))) (sym by_is)
+        (subst (λ (o : Option (ℕ × ℕ)). IsQuiescent (row_known {S = S} o g.0.slot g.0.work)) (sym under_is)
+        (subst (λ (k : SeatWork K V S). IsQuiescent (row_known {S = S} None g.0.slot k)) (sym work_is) (subst (λ (y : SlotView (Node K V)). IsQuiescent y) (sym e) is)))
 
     abbrev Sought : Register × Advance ℕ → Sole K V S → Type 0
     Sought end x = HasSought acts_of all_in none_in size acting end x
@@ -156,7 +160,7 @@ module _ {K V S : Type 0} (same : K → K → Bool) (hash : S → K → ℕ) (fi
     by_end (d, progress.Waits) e so slot = goes_on d slot so.2 (λ x acts all. subst (λ (y : Register × Advance ℕ). Sought y x) (sym e) (acts, all))
     by_end (d, progress.Done a) e so slot =
         ends (quiet (slot_view.Outside a) slot tt)
-        (done_there s.memory m c short.0 row.0 a (ap (λ (y : Register × Advance ℕ). y.1) e) c.stands short.1 t.5 op out makes took row.1)
+        (done_there s.memory m c short.0 row.0 a (ap (λ (y : Register × Advance ℕ). y.1) e) c.stands short.1 t.6 op out makes took row.1)
         (λ x left acts. subst (λ (y : Register × Advance ℕ). Sought y x) (sym e) (None, left, acts))
     by_end (d, progress.Refused fault) e (inl none) slot =
         clears (quiet slot_view.Rests slot tt) none.1

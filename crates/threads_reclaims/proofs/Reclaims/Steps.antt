@@ -26,9 +26,7 @@ use Rattle.seize_views.specs.Views.Promises.{op_in}
 use Rattle.seize_views.specs.Views.Told.{FollowsBy, shown_by}
 use Rattle.seize_views.specs.declared.view.Fixed.{Fixed}
 use Rattle.seize_views.proofs.Views.Looks.{LooksOnce, now_ends, rest_of}
-use Rattle.seize_acts.specs.Acts.Stays.{how_many, is_end_of_owner}
 use Rattle.many_acts.specs.Given.ReclaimsReclaims.{ReclaimingOutcome}
-use Rattle.many_acts.proofs.Given.CallersTogether.Came.{came_reached}
 use Rattle.seize_reclaims.specs.Empties.Asked.{HasPassed}
 use Rattle.seize_reclaims.specs.Renews.Rule.{HasGone, IsShown}
 use Rattle.seize_reclaims.specs.declared.alone.Alone.TheVariants.{Reclaims}
@@ -42,8 +40,9 @@ use Rattle.seize_seats.proofs.Seats.Stepping.Errands.{mapped_at}
 use Rattle.seize_views.specs.Views.Rows.{use_of}
 use Rattle.threads_rule.specs.Views.Listed.{calls_of}
 use Rattle.threads_rule.specs.Views.Looks.{shown_in}
-use Rattle.threads_rule.specs.Views.Rule.{MapsWorld, IsFresh, Holds, Fits, AreSo, AreRuns, IsIdle, KnowsRow, runs_of, caller_at}
+use Rattle.threads_rule.specs.Views.Rule.{MapsWorld, IsFresh, Holds, Fits, AreApart, AreSo, AreRuns, IsIdle, KnowsRow, runs_of, caller_at}
 use Rattle.threads_rule.specs.declared.view.BegunCall.{BegunCall}
+use Rattle.threads_rule.specs.declared.view.Map.{Map}
 use Rattle.threads_rule.proofs.Views.Numbers.{first_slot}
 use Rattle.threads_reclaims.specs.Reclaims.Promises.{IsReclaimed}
 use Rattle.threads_rule.specs.declared.view.View.{View}
@@ -54,7 +53,6 @@ use Rattle.threads_reclaims.proofs.Reclaims.Begun.{stage_reclaims}
 use Rattle.threads_reclaims.proofs.Reclaims.Counted.{not_done}
 use Rattle.threads_reclaims.proofs.Reclaims.Inside.{set_but, one_on, at_inside}
 use Rattle.threads_reclaims.proofs.Reclaims.More.{further, led_further, still_so}
-use Rattle.threads_reclaims.proofs.Reclaims.Owners.{reclaiming_ends_none}
 use Rattle.seize_words.proofs.General.{same_some}
 
 -- who is put in where he stands is there as before
@@ -142,12 +140,6 @@ module _ {K V S : Type 0} (same : K → K → Bool) (hash : S → K → ℕ) (fi
         subst (λ (y : Scene K V). IsFresh y k) (sym did.did.comes)
         (λ n le. subst (λ (o : Option (Standing K)). IsSameMap o (did.did.did.maps2 n)) (f.0 n le) (did.did.did.as_they_were n), f.1)
 
-    ended : (o : ℕ) → how_many (is_end_of_owner o) then_.world.log ≡ how_many (is_end_of_owner o) scene.world.log
-    ended o =
-        ap (λ (y : Scene K V). how_many (is_end_of_owner o) y.world.log) did.did.comes
-        ∙ reclaiming_ends_none V same fixed.batch_size fixed.roots slot_of scene.maps scene.calls scene.makers scene.enders scene.world did.caller _ did.machine.stands did.did.memory did.next did.end
-        did.did.did (came_reached fixed.batch_size scene.world h.reached.0.1.makings.standing.came) o
-
     abbrev pub doings_then : List (Doing K V S)
     doings_then = s.world.doings ++ doing ∷ []
 
@@ -156,7 +148,7 @@ module _ {K V S : Type 0} (same : K → K → Bool) (hash : S → K → ℕ) (fi
 
     pub were_then : AreAsWere same hash fixed (view_of (inside s)) doings_then next.1 then_
     were_then =
-        still_so same hash fixed h.course s.world.doings h.reached h.led doing may (record { own = tt; numbers = λ k. refl; calls = λ seat x calls. refl }) maps_on fresh ended (view_of (inside s)) h.were
+        still_so same hash fixed h.course s.world.doings h.reached h.led doing may (record { own = tt; numbers = λ k. refl; calls = λ seat x calls. refl }) maps_on fresh (view_of (inside s)) h.were
 
     -- where it has come to its end so
     module _ (over : c2.stands ≡ at.Over) (done : told ≡ settled.Done) where
@@ -204,9 +196,11 @@ module _ {K V S : Type 0} (same : K → K → Bool) (hash : S → K → ℕ) (fi
             slot = first_slot;
             does = record { row = i.row; slot = tt; calls = i.calls; makers = i.makers; enders = i.enders };
             aside = tt;
-            map = were_then.maps j (plainly y) (at_inside s j y at);
+            map = (were_then.maps j (plainly y) (at_inside s j y at)).0;
+            own = (were_then.maps j (plainly y) (at_inside s j y at)).1;
             only = tt;
             held = tt;
+            table = tt;
             pair = tt;
             idle = λ a is ne. idle (caller_at j a);
           }
@@ -218,6 +212,14 @@ module _ {K V S : Type 0} (same : K → K → Bool) (hash : S → K → ℕ) (fi
           by None = refl
           by (Some y) = refl
 
+      -- who had a map as its own has it alone still
+      apart : (j k : ℕ) (p : Sole K V S) (y : View K V S) (mine : Map S) → view_of s j ≡ Some p → (q : Sole K V S) × (view_of s k ≡ Some q) × (kept_of q ≡ y) → y.own ≡ Some mine
+          → AreApart j k (kept_of p) y mine
+      apart j k p y mine at (q, at_q, is) e =
+          let at_p = at_inside s j p at in
+          let base = were_then.apart j k (plainly p) (plainly q) mine at_p (at_inside s k q at_q) (ap (λ (z : View K V S). z.own) is ∙ e) in
+          record { known = λ a g number. absurd (let by = base.known a g number in let none = were_then.alone j (plainly p) at_p in cc (by, none)); owned = base.owned }
+
       so : AreSo same hash back then_
       so = record {
         memory = memory_is;
@@ -225,8 +227,9 @@ module _ {K V S : Type 0} (same : K → K → Bool) (hash : S → K → ℕ) (fi
         unborn = λ j a is at. idle (caller_at j a);
         leant = λ j n a x at e. absurd (let k = from j x at in let none = ap (λ (z : View K V S). z.under) k.2 in cc (none, e));
         apart = λ j k a b d x y e f p q. absurd (let g2 = from j x e in let none = ap (λ (z : View K V S). use_of z.slot) g2.2 in cc (none, p));
+        owned = λ j n x at e. absurd (let k = from j x at in let none = ap (λ (z : View K V S). z.by) k.2 in cc (none, e));
+        maps = λ j k x y mine at at2 e. (let p = from j x at in subst (λ (z : View K V S). AreApart j k z y mine) p.2 (apart j k p.0 y mine p.1 (from k y at2) e));
         fresh = were_then.fresh;
-        unended = were_then.unended;
       }
 
       -- THE RULE OF MAPS HOLDS AGAIN
@@ -240,7 +243,7 @@ module _ {K V S : Type 0} (same : K → K → Bool) (hash : S → K → ℕ) (fi
         so = so;
         rows = λ j x at. (let k = from j x at in subst (λ (z : View K V S). KnowsRow fixed then_ j z.slot) k.2 (record { plain = tt; short = tt; known = tt; bounded = tt }));
         own = were_then.own;
-        calls = λ j. subst (λ (runs : List (BegunCall K V)). AreRuns same hash then_ (calls_of j doings_then next.1 []) runs) (as_before j) (were_then.calls j);
+        calls = λ j. subst (λ (runs : List (BegunCall K V)). AreRuns same hash (calls_of j doings_then next.1 []) runs) (as_before j) (were_then.calls j);
         newest = λ j x machine at works. absurd (let k = from j x at in let none = ap (λ (z : View K V S). z.work) k.2 in cc (none, works));
         seen = λ j x at b y shown. absurd (let k = from j x at in let none = ap (λ (z : View K V S). shown_in z.held b) k.2 in cc (none, shown));
       }

@@ -16,7 +16,6 @@ use Rattle.many_acts.specs.Given.ScenesScene.{Scene, slot_of}
 use Rattle.many_acts.specs.Acts.Acts.{Answer}
 use Rattle.many_acts.specs.Acts.Doings.{Doing, reclaiming}
 use Rattle.many_acts.specs.Acts.Lists.{Course, Reached, LedTo}
-use Rattle.seize_acts.specs.Acts.Stays.{how_many, is_end_of_owner}
 use Rattle.seize_seats.specs.Seats.State.{State, view_of}
 use Rattle.seize_views.specs.Views.Begun.{seeker_at}
 use Rattle.seize_views.specs.declared.view.Fixed.{Fixed}
@@ -27,7 +26,8 @@ use Rattle.seize_reclaims.specs.declared.alone.Alone.{Alone}
 use Rattle.seize_reclaims.specs.declared.alone.Alone.TheVariants.{Registers, Reclaims}
 use Rattle.threads_rule.specs.Views.Listed.{AreNumbered, IsItsOwn, calls_of}
 use Rattle.threads_rule.specs.Views.Notes.{SeatIsQuiescent}
-use Rattle.threads_rule.specs.Views.Rule.{MapsWorld, Holds, KnowsMap, AreRuns, IsFresh, runs_of}
+use Rattle.threads_rule.specs.Views.Rule.{MapsWorld, Holds, KnowsMap, AreApart, AreRuns, IsFresh, runs_of}
+use Rattle.threads_rule.specs.declared.view.Map.{Map}
 use Rattle.threads_rule.specs.declared.view.View.{View}
 use Rattle.threads_rule.specs.declared.view.SeatWork.TheVariants.{Nothing}
 use Rattle.threads_reclaims.specs.declared.sole.Sole.{Sole}
@@ -55,9 +55,9 @@ module _ {K V : Type 0} where
   all_for (Reclaims c seen left) roots = c
 
 module _ {K V S : Type 0} where
-  -- with no slot, and on no seat leaning
+  -- with no slot, and on no seat leaning: it knows the map that it knew, and its own one
   abbrev pub freed : View K V S → View K V S
-  freed v = record { slot = slot_view.Rests; under = None; map = v.map; work = Nothing; looks = []; held = []; began = v.began; calls = v.calls }
+  freed v = record { slot = slot_view.Rests; under = None; map = v.map; by = None; own = v.own; work = Nothing; looks = []; held = []; began = v.began; calls = v.calls }
 
   -- what it knew when it had nothing under way
   abbrev pub plainly : Sole K V S → View K V S
@@ -79,7 +79,7 @@ module _ {K V S : Type 0} where
 
   -- who acts begins to take a slot
   abbrev pub seeking : View K V S → View K V S
-  seeking v = record { slot = slot_view.Registers (seeker_at 0 register_at.Begin); under = None; map = v.map; work = Nothing; looks = []; held = []; began = v.began; calls = v.calls }
+  seeking v = record { slot = slot_view.Registers (seeker_at 0 register_at.Begin); under = None; map = v.map; by = None; own = v.own; work = Nothing; looks = []; held = []; began = v.began; calls = v.calls }
 
   abbrev pub one_first : Fixed → View K V S → Sole K V S
   one_first fixed v = Acts (Registers (seeker_at 0 register_at.Begin) fixed.batch_size) fixed.roots (seeking v)
@@ -96,7 +96,7 @@ module _ {K V S : Type 0} where
   -- while the one that acts seeks a slot
   abbrev pub TakesAt : Fixed → Mem (Node K V) → Sole K V S → Type 0
   TakesAt fixed m (Acts (Registers c size) roots v) =
-      (size ≡ fixed.batch_size) × (roots ≡ fixed.roots) × (v.slot ≡ slot_view.Registers c) × (v.under ≡ None) × (v.work ≡ Nothing) × SeeksAt m c c.stands
+      (size ≡ fixed.batch_size) × (roots ≡ fixed.roots) × (v.slot ≡ slot_view.Registers c) × (v.under ≡ None) × (v.work ≡ Nothing) × (v.by ≡ None) × SeeksAt m c c.stands
   TakesAt fixed m (Acts (Reclaims c seen left) roots v) = ⊥
   TakesAt fixed m (Left v) = SeatIsQuiescent v
 
@@ -116,13 +116,14 @@ module _ {K V S : Type 0} (same : K → K → Bool) (hash : S → K → ℕ) (fi
     pub seats : (j : ℕ) (v : Sole K V S) → view_of s j ≡ Some v → TakesAt fixed s.memory v
     pub one : IsOne s
 
-  -- What seats knew of maps is so still, and their calls are those of the list.
+  -- What seats knew of maps is so still, and their own ones stand; none leans on the owner of one; and their calls are those of the list.
   pub record AreAsWere (views : ℕ → Option (View K V S)) (doings : List (Doing K V S)) (answers : List (Answer K V)) (scene : Scene K V) : Type 0 where
-    pub maps : (j : ℕ) (v : View K V S) → views j ≡ Some v → KnowsMap same hash scene v.map
+    pub maps : (j : ℕ) (v : View K V S) → views j ≡ Some v → KnowsMap same hash scene v.map × KnowsMap same hash scene v.own
+    pub alone : (j : ℕ) (v : View K V S) → views j ≡ Some v → v.by ≡ None
+    pub apart : (j k : ℕ) (v u : View K V S) (mine : Map S) → views j ≡ Some v → views k ≡ Some u → u.own ≡ Some mine → AreApart j k v u mine
     pub fresh : (k : ℕ) × IsFresh scene k × AreNumbered 0 doings k
-    pub unended : (o : ℕ) → how_many (is_end_of_owner o) scene.world.log ≡ 0
     pub own : AllByRecursion (IsItsOwn hash) doings
-    pub calls : (j : ℕ) → AreRuns same hash scene (calls_of j doings answers []) (runs_of (views j))
+    pub calls : (j : ℕ) → AreRuns same hash (calls_of j doings answers []) (runs_of (views j))
 
   pub record Reclaiming (s : State (Node K V) (Sole K V S) (MapsWorld K V S)) : Type 0 where
     pub course : Course V same hash fixed.batch_size fixed.roots slot_of

@@ -1,6 +1,6 @@
 -- The turns of a seat of maps, and the lookup that has begun.
 use Rattle.std.specs.Prelude.{max, Result, Ok, Err, IfErr, Option, None}
-use Rattle.std.proofs.Common.{false, ◌≡◌, ℕ, ◌≤◌, ◌^◌, Bool, Some, ◌⊎◌, inl, inr, refl, sym, subst, ap, ◌∙◌, arith}
+use Rattle.std.proofs.Common.{true, false, ◌≡◌, ℕ, ◌≤◌, ◌^◌, Bool, Some, ◌⊎◌, inl, inr, refl, sym, subst, ap, ◌∙◌, arith}
 use Rattle.seize_seats.specs.Seats.State.{Turns}
 use Rattle.seize_words.specs.declared.fault.Fault.{Fault}
 use Rattle.map_tables.specs.Lengths.{IsTableLen}
@@ -28,7 +28,7 @@ use Rattle.threads_rule.proofs.Views.Laws.{calls_are_asked, calls_are_told, call
 use Rattle.threads_rule.specs.Errands.Calling.{IsUnderWay, MayDo, MayDoAs, Works, wanted_of}
 use Rattle.threads_kinds.specs.CallKinds.Kinds.{Kind, Stage}
 use Rattle.threads_rule.specs.Errands.Looking.{Begins, IsOn, LooksFor, MayLook, StaysThere}
-use Rattle.threads_rule.specs.Errands.Making.{BeginsMaking, HasOutcome, MayBegin, PlansJust}
+use Rattle.threads_rule.specs.Errands.Making.{BeginsMaking, HasComeSo, IsEarly, IsThis, MakesMap, MayBegin, PlansJust}
 use Rattle.seize_words.proofs.General.{same_some}
 
 module _ {K S : Type 0} (V : Type 0) (same : K → K → Bool) (hash : S → K → ℕ) where
@@ -55,25 +55,45 @@ module _ {K V S : Type 0} (same : K → K → Bool) (hash : S → K → ℕ) (fi
   eight : max 0 8 ≤ 2 ^ 48 → IsTableLen (max 0 8)
   eight few = record { power = (3, refl); least = omega arith; most = omega arith }
 
-  pub may_make : (plans : S → NewMap → Type 0) (hasher : S) (c : NewMap) → PlansJust plans hasher c → MayBegin fixed c → v.slot ≡ Rests → v.work ≡ Nothing
+  pub may_make : (plans : Bool → S → NewMap → Type 0) (own : Bool) (hasher : S) (c : NewMap) → PlansJust plans own hasher c → MayBegin fixed c → v.slot ≡ Rests → v.work ≡ Nothing
       → Turns (Holds same hash fixed) KeepsFor id v (BeginsMaking plans v)
-  may_make plans hasher c just may rests free =
-      turns_to _ (BeginsMaking plans v) (λ w e. (e.0, hasher, c, just.0, e.1 ∙ ap (making v false e.0 hasher) (sym may.is)))
-      (makings_begin V same hash fixed id v false hasher may.given 0 rests free may.sized may.masked may.rooted may.initial eight)
+  may_make plans own hasher c just may rests free =
+      turns_to _ (BeginsMaking plans v) (λ w e. (e.0, own, hasher, c, just.0, e.1 ∙ ap (making v own e.0 hasher) (sym may.is)))
+      (makings_begin V same hash fixed id v own hasher may.given 0 rests free may.sized may.masked may.rooted may.initial eight)
+
+-- what has begun is this making
+pub makes_it : {K V S : Type 0} (own : Bool) (hasher : S) (c : NewMap) (u v : View K V S) → BeginsMaking (IsThis own hasher c) u v → (fixed : Fixed) → MayBegin fixed c → (own ≡ true → u.own ≡ None)
+    → MakesMap own hasher c v
+makes_it {K} {V} {S} own hasher c u v (m, o, h, d, (same_own, same_hasher, same_plan), view) fixed may yet = record {
+  number = m;
+  works =
+      ap (λ (x : View K V S). x.work) view ∙ ap (λ (x : Bool). Makes x m h d) same_own ∙ ap (λ (x : S). Makes own m x d) same_hasher ∙ ap (λ (x : NewMap). Makes own m hasher x) same_plan;
+  early = subst (λ (x : NewMap). IsEarly x.stands) (sym may.is) tt;
+  none = ap (λ (x : NewMap). x.len) may.is;
+  yet = λ is. ap (λ (x : View K V S). x.own) view ∙ yet is;
+}
 
 -- what a making has come to, from where it began
-module _ {K V S : Type 0} (plans : S → NewMap → Type 0) (hasher : S) (opening : NewMap) (u v w : View K V S) (begins : BeginsMaking plans u v) where
+module _ {K V S : Type 0} (plans : Bool → S → NewMap → Type 0) (hasher : S) (opening : NewMap) (u v w : View K V S) (begins : BeginsMaking plans u v) where
   refused_there : (answer : Result Setting Fault) → IfErr answer (λ fault. (w.work ≡ Nothing) × (w.map ≡ v.map)) → IfErr answer (λ fault. (w.work ≡ Nothing) × (w.map ≡ u.map))
   refused_there (Ok setting) is = tt
-  refused_there (Err fault) is = (is.0, is.1 ∙ ap (λ (x : View K V S). x.map) begins.4)
+  refused_there (Err fault) is = (is.0, is.1 ∙ ap (λ (x : View K V S). x.map) begins.5)
 
-  pub came_from : (answer : Result Setting Fault) → HasOutcome hasher opening answer v w → HasOutcome hasher opening answer u w
-  came_from answer came = record {
+  pub came_from : (own : Bool) (answer : Result Setting Fault) → HasComeSo own hasher opening answer v w → HasComeSo own hasher opening answer u w
+  came_from true answer came = record {
+    made = came.made;
+    refused = came.refused;
+    slot = came.slot ∙ ap (λ (x : View K V S). side_of x) begins.5;
+    map = came.map ∙ ap (λ (x : View K V S). x.map) begins.5;
+    by = came.by ∙ ap (λ (x : View K V S). x.by) begins.5;
+    calls = came.calls ∙ ap (λ (x : View K V S). x.calls) begins.5;
+  }
+  came_from false answer came = record {
     made = came.made;
     refused = refused_there answer came.refused;
-    slot = came.slot ∙ ap (λ (x : View K V S). side_of x) begins.4;
-    good = λ e. came.good (ap (λ (x : View K V S). x.by) begins.4 ∙ e);
-    calls = came.calls ∙ ap (λ (x : View K V S). x.calls) begins.4;
+    slot = came.slot ∙ ap (λ (x : View K V S). side_of x) begins.5;
+    good = λ e. came.good (ap (λ (x : View K V S). x.by) begins.5 ∙ e);
+    calls = came.calls ∙ ap (λ (x : View K V S). x.calls) begins.5;
   }
 
 module _ {K V S : Type 0} (same : K → K → Bool) (hash : S → K → ℕ) (fixed : Fixed) (id : ℕ) (v : View K V S) where
@@ -147,8 +167,8 @@ module _ {K V S : Type 0} where
   pub begun_leans : (same : K → K → Bool) (hash : S → K → ℕ) (wanted : Wanted K V) (v w : View K V S) (n : ℕ) {X : Type 0} → Begins same hash wanted v w → Leans w n → Leans v n ⊎ X
   begun_leans same hash wanted v w n {X} begins leans = leans_still v w n X (ap (λ (u : View K V S). u.under) begins.4) (ap (λ (u : View K V S). u.by) begins.4) leans
 
-  pub making_leans : (plans : S → NewMap → Type 0) (v w : View K V S) (n : ℕ) {X : Type 0} → BeginsMaking plans v w → Leans w n → Leans v n ⊎ X
-  making_leans plans v w n {X} begins leans = leans_still v w n X (ap (λ (u : View K V S). u.under) begins.4) (ap (λ (u : View K V S). u.by) begins.4) leans
+  pub making_leans : (plans : Bool → S → NewMap → Type 0) (v w : View K V S) (n : ℕ) {X : Type 0} → BeginsMaking plans v w → Leans w n → Leans v n ⊎ X
+  making_leans plans v w n {X} begins leans = leans_still v w n X (ap (λ (u : View K V S). u.under) begins.5) (ap (λ (u : View K V S). u.by) begins.5) leans
 
   pub told_leans : (machine : Machine K V K) (reply : MachineReply V) (v w : View K V S) (n : ℕ) {X : Type 0} → w ≡ replied v machine reply → Leans w n → Leans v n ⊎ X
   told_leans machine reply v w n {X} told leans = leans_still v w n X (ap (λ (u : View K V S). u.under) told) (ap (λ (u : View K V S). u.by) told) leans

@@ -136,6 +136,7 @@ module _ {K V S : Type 0} (same : K → K → Bool) (hash : S → K → ℕ) (fi
         own = map_on same hash scene n id place fits.slot fixed.batch_size None leaves v.own (all_last same hash scene n id place fits.slot fixed.batch_size None leaves stand v.own) fits.own;
         only = subst (λ (x : Option (Map S)). LooksAside v.under x (Calls machine)) (sym knows) only;
         held = tt;
+        table = tt;
         pair =
             subst (λ (x : Option (Map S)). KnowsPair same hash n i x (Calls machine) runs) (sym knows)
             (λ x here. ap pair_of (same_some x u (sym here ∙ call_here scene.calls map.number i (Some u))) ∙ pair);

@@ -1,230 +1,61 @@
--- The seat that owns a map begins to end it, where nobody leans on it; and an end goes on.
-use Rattle.std.specs.Prelude.{◌≢◌, ◌∷◌, Option, Some, None}
+-- The end of a map, of the seat that owned it, goes on.
+use Rattle.std.specs.Prelude.{◌≢◌, ◌∷◌, ◌++◌, Option, Some, None, IsSome}
 use Rattle.std.specs.Option.{is_none}
-use Rattle.std.proofs.Common.{◌≡◌, ℕ, ◌≤◌, Bool, true, false, List, [], ◌⊎◌, inl, inr, refl, sym, subst, ap, ◌∙◌}
-use Rattle.std.proofs.lemmas.Bool.{cases_eq}
+use Rattle.std.proofs.Common.{◌≡◌, ℕ, Bool, true, false, List, [], inl, refl, sym, subst, ap, ◌∙◌}
 use Rattle.seize_words.specs.OneMemory.Mem.{Mem, Can, Took, value_at}
 use Rattle.seize_words.specs.OneMemory.Op.{Op, Out}
 use Rattle.seize_words.specs.OneMemory.Plan.{Steps, May}
 use Rattle.seize.specs.Law.{holds, owner_of}
-use Rattle.seize.specs.World.{World, Row, Use, Rests, Ends as EndsOwner, with_at}
+use Rattle.seize.specs.World.{World, Row, Use, Rests, with_at}
 use Rattle.seize.specs.declared.rows.settle.Settled.{Settled}
 use Rattle.seize.specs.declared.rows.settle.Settled.TheVariants as settled
 use Rattle.map_tables.specs.Nodes.{deferred_word}
 use Rattle.map_tables.specs.declared.node.Node.{Node}
-use Rattle.map_tables.specs.declared.setting.Setting.{Setting}
 use Rattle.papaya_raw.specs.EndMap.{ending, end_map_plan}
 use Rattle.papaya_raw.specs.declared.machines.end_map.EndMap.{EndMap}
 use Rattle.papaya_raw.specs.declared.machines.machine.Machine.{Machine}
 use Rattle.many_acts.specs.Given.CallersRows.{IsUsedAlike}
-use Rattle.many_acts.specs.Given.CallersTogether.{UnderWay}
-use Rattle.many_acts.specs.Given.FinishesEndings.{Finishing, StepsOfEnding, finishing_of}
+use Rattle.many_acts.specs.Given.FinishesEndings.{Finishing, FinishingFacts, StepsOfEnding, waiting_by}
 use Rattle.many_acts.specs.Given.FinishesFactsEnds.{Deed, Looks, TakesPair, LeavesTable, JoinsPair, TakesLeft, TakesCounter, WritesRoot, events_of}
 use Rattle.many_acts.specs.Given.FinishesMaps.{Standing}
-use Rattle.many_acts.specs.Given.ScenesEnding.{ending_begun}
 use Rattle.many_acts.specs.Given.ScenesScene.{Scene, slot_of}
-use Rattle.many_acts.specs.Acts.Acts.{Act, BeginsEnding, StepsEnding}
+use Rattle.many_acts.specs.Acts.Acts.{StepsEnding}
 use Rattle.many_acts.specs.Acts.Doings.{Does, MayDo}
 use Rattle.many_acts.specs.Acts.Leads.{AllStand, Led, EndingCame, ending_steps}
 use Rattle.many_acts.specs.Acts.Lists.{AllMayStep, AllAreActs}
 use Rattle.many_acts.proofs.Given.CallersTogether.At.{at_same, at_other}
 use Rattle.many_acts.proofs.Given.CallersTogether.Came.{came_reached}
 use Rattle.many_acts.proofs.Given.CallersTogether.Slots.{alike_same}
+use Rattle.many_acts.specs.Lefts.{left_of, GetsOn}
 use Rattle.many_acts.proofs.Acts.Lists.{steps_are_acts}
+use Rattle.many_acts.proofs.Lefts.{ends_get_on}
 use Rattle.seize_model.proofs.Alone.Histories.Reached.{Reached}
 use Rattle.seize_acts.specs.Acts.Answers.{Grant, then_on}
-use Rattle.seize_seats.specs.Seats.Errands.{IsUnlent}
 use Rattle.seize_seats.specs.Seats.State.{State, view_of, Goes}
 use Rattle.seize_views.specs.Views.Told.{FollowsBy}
 use Rattle.seize_views.specs.declared.view.Fixed.{Fixed}
 use Rattle.seize_views.specs.declared.view.SlotView.{SlotView}
 use Rattle.seize_views.specs.declared.view.SlotView.TheVariants as slot_view
-use Rattle.threads_rule.specs.Views.Begun.{ending_own}
 use Rattle.threads_rule.specs.Views.Listed.{calls_of}
-use Rattle.threads_rule.specs.Views.Looks.{shown_in}
-use Rattle.threads_rule.specs.Views.Promises.{EndingsBegin, EndingsContinue}
-use Rattle.threads_rule.specs.Views.Rule.{MapsWorld, HasRow, HasEnding, DoesSo, KnowsMap, AreRuns, Fits, AreSo, Holds, KeepsFor, IsBy, IsFresh, IsIdle, IsSlot, Leans, caller_at, acts_in}
+use Rattle.threads_rule.specs.Views.Looks.{shown_in, MayFollow, IsAtTable}
+use Rattle.threads_rule.specs.Views.Promises.{EndingsContinue, EndingsAreShown}
+use Rattle.threads_rule.specs.Views.Rule.{MapsWorld, HasRow, HasEnding, end_of, DoesSo, KnowsMap, KnowsTable, AreRuns, Fits, AreSo, Holds, KeepsFor, IsIdle, IsSlot, caller_at, acts_in}
 use Rattle.threads_rule.specs.Views.Told.{told, observed_by, ended_after}
 use Rattle.threads_rule.specs.declared.view.BegunCall.{BegunCall}
-use Rattle.threads_rule.specs.declared.view.Map.{Map}
+use Rattle.threads_rule.specs.declared.view.EndOfMap.{EndOfMap}
 use Rattle.threads_rule.specs.declared.view.View.{View}
 use Rattle.threads_rule.specs.declared.view.SeatWork.{SeatWork}
-use Rattle.threads_rule.specs.declared.view.SeatWork.TheVariants.{Nothing, Calls, Makes, Ends}
+use Rattle.threads_rule.specs.declared.view.SeatWork.TheVariants.{Calls, Ends}
 use Rattle.threads_rule.proofs.Views.Knows.{knows_rests}
-use Rattle.threads_rule.proofs.Views.Leaves.{Leaves, Lasts, own_idle, map_on, all_last}
+use Rattle.threads_rule.proofs.Views.Leaves.{Leaves, own_idle, map_on, all_last}
 use Rattle.threads_rule.proofs.Views.Listed.{numbered_on}
-use Rattle.threads_rule.proofs.Views.Looked.{Made, may_op}
-use Rattle.threads_rule.proofs.Views.Moved.{scene_of, all_stand, are_so, KnowsThen, Moved, knows_alike, same_slot, moved}
+use Rattle.threads_rule.proofs.Views.Looked.{AllLooked, Made, may_op}
+use Rattle.threads_rule.proofs.Views.Moved.{scene_of, all_stand, are_so, knows_alike, same_slot, moved}
 use Rattle.threads_rule.proofs.Views.Quiet.{there, held_is_linked}
 use Rattle.threads_rule.proofs.Views.Ran.{AreNoRows, no_rows_pass}
+use Rattle.threads_rule.proofs.Views.Tables.{ComesTo, looked_table, none_looked}
 use Rattle.threads_rule.proofs.Views.Taking.{ends_keep, ends_keep_made, ends_keep_handed}
-use Rattle.threads_rule.proofs.Views.Whose.{Seated, whose}
 use Rattle.seize_words.proofs.General.{same_some}
-
-module _ {K V S : Type 0} (same : K → K → Bool) (hash : S → K → ℕ) (fixed : Fixed) (s : State (Node K V) (View K V S) (MapsWorld K V S)) (h : Holds same hash fixed s)
-    (id : ℕ) (v : View K V S) (at_id : view_of s id ≡ Some v) (map : Map S) (rests : v.slot ≡ slot_view.Rests) (free : v.work ≡ Nothing) (owns : v.own ≡ Some map)
-    (unlent : IsUnlent Leans id s) where
-  abbrev scene : Scene K V
-  scene = scene_of same hash fixed s h
-
-  all : AllStand same hash fixed.batch_size fixed.roots slot_of scene
-  all = all_stand same hash fixed s h
-
-  so : AreSo same hash s scene
-  so = are_so same hash fixed s h
-
-  fits : Fits same hash scene id v
-  fits = so.seats id v at_id
-
-  abbrev place : ℕ
-  place = acts_in v.under v.slot
-
-  abbrev i : ℕ
-  i = caller_at id place
-
-  has_row : HasRow scene i slot_view.Rests
-  has_row =
-      subst (λ (x : SlotView (Node K V)). HasRow scene i x) rests
-      (subst (λ (x : SeatWork K V S). DoesSo same hash scene i v.under v.slot v.map x) free fits.does)
-
-  it : KnowsMap same hash scene (Some map)
-  it = subst (λ (o : Option (Map S)). KnowsMap same hash scene o) owns fits.own
-
-  -- who knows the map but by its owner is its owner
-  nobody_knows : (k : ℕ) (x : View K V S) → view_of s k ≡ Some x → (a : Map S) → x.map ≡ Some a → a.number ≡ map.number → ⊥
-  nobody_knows k x at a e number = unlent k x at (inr (subst (λ (o : Option ℕ). IsBy o id) (sym ((so.maps k id x v map at at_id owns).known a e number)) refl))
-
-  -- so nobody has a call on it
-  no_call : (a : ℕ) → scene.calls map.number a ≡ None
-  no_call a = elim (whose same hash scene (view_of s) so.seats so.unborn a) as (λ _. scene.calls map.number a ≡ None) [
-    | inl idle ↦ idle.calls map.number
-    | inr k ↦ by_work k k.knows.work k.knows.map refl k.does
-  ]
-    where
-      by_work : (k : Seated same hash scene (view_of s) so.seats so.unborn a) (work : SeatWork K V S) (known : Option (Map S)) → k.knows.map ≡ known
-          → DoesSo same hash scene a k.knows.under k.knows.slot known work → scene.calls map.number a ≡ None
-      by_work k Nothing known e d = d.calls map.number
-      by_work k (Makes mine m hasher opening) known e d = d.1.calls map.number
-      by_work k (Ends machine) known e d = d.1.calls map.number
-      by_work k (Calls machine) None e d = absurd d
-      by_work k (Calls machine) (Some its) e d = none_of (scene.calls map.number a) refl
-        where
-          none_of : (o : Option (UnderWay K V K)) → scene.calls map.number a ≡ o → scene.calls map.number a ≡ None
-          none_of None is = is
-          none_of (Some u) is =
-              let call = d.3.here in
-              absurd (nobody_knows k.seat k.knows k.here its e (all.makings.standing.once its.number map.number a (λ none. cc (none, call)) (λ none. cc (none, is))))
-
-  may : MayDo V same hash fixed.batch_size fixed.roots slot_of (Does (BeginsEnding i map.number)) h.reached.0
-  may = (
-    ap is_none h.nobody,
-    (
-      record { no_call = λ a. ap is_none (has_row.calls a); no_making = ap is_none has_row.makers; no_ending = ap is_none has_row.enders },
-      ap is_none it.1,
-      λ j. ap is_none (no_call j),
-    ),
-  )
-
-  led : Led same hash fixed.batch_size fixed.roots slot_of (BeginsEnding i map.number) scene (h.course.told h.reached.0 (Does (BeginsEnding i map.number)) may)
-      (h.course.next h.reached.0 (Does (BeginsEnding i map.number)) may).0
-  led = (h.course.leads h.reached.0 (Does (BeginsEnding i map.number)) may).0
-
-  abbrev n : Scene K V
-  n = ending_begun map.number i led.0 scene
-
-  same_it : it.0 ≡ led.0
-  same_it = same_some it.0 led.0 (sym it.1 ∙ led.1)
-
-  abbrev w : View K V S
-  w = ending_own v map
-
-  leaves : Leaves same hash fixed.batch_size scene n i None
-  leaves = record {
-    rows = λ k ne. refl;
-    calls = λ a k ne. refl;
-    makers = λ k ne. refl;
-    enders = λ k ne. at_other scene.enders i (Some (finishing_of led.0 scene.world)) k ne;
-    uses = λ t used apart. alike_same (scene.world.uses t);
-    ends = Some map.number;
-    maps = λ a r lasts is. (r, at_other scene.maps map.number None a (λ e. lasts (ap (λ (x : ℕ). Some x) (sym e))) ∙ is, refl, refl);
-    held = λ t b a r apart inside lasts stands owner held. (held, refl, refl);
-    made = λ k ne b x made is other. is;
-    keeps = λ b its there some. refl;
-    passes = λ c ne was now. (EndsOwner i led.0.setting.counter ∷ [], (n.world, tt, refl, now, refl));
-  }
-
-  ends_it : leaves.ends ≡ Some map.number
-  unfolding leaves
-  ends_it = refl
-
-  known_lasts : (o : Option (Map S)) → v.map ≡ o → Lasts same hash scene n id place fits.slot fixed.batch_size None leaves o
-  known_lasts None e = tt
-  known_lasts (Some a) e = λ ends. nobody_knows id v at_id a e (same_some a.number map.number (sym ends ∙ ends_it))
-
-  knows : KnowsThen same hash fixed s h id v w
-  knows = record {
-    by = λ m e. (e, refl);
-    own = inr (λ j y at e. unlent j y at (inr (subst (λ (o : Option ℕ). IsBy o id) (sym e) refl)));
-    map = λ a e. inl (e, refl);
-    mine = λ a e. absurd (cc e);
-    apart = λ a b e g. absurd (cc g);
-  }
-
-  fresh : IsFresh n so.fresh.0
-  fresh = (λ a above. by a above (cases_eq a map.number), so.fresh.1.1)
-    where
-      by : (a : ℕ) → so.fresh.0 ≤ a → (a ≡ map.number) ⊎ (a ≢ map.number) → n.maps a ≡ None
-      by a above (inl e) = at_same scene.maps map.number None a e
-      by a above (inr ne) = at_other scene.maps map.number None a ne ∙ so.fresh.1.0 a above
-
-  abbrev act : Act K V S
-  act = BeginsEnding i map.number
-
-  go : Moved same hash fixed s h id act s.memory w n
-  go = record {
-    memory = so.memory;
-    own = record {
-      slot = fits.slot;
-      aside = fits.aside;
-      does = (
-        rests,
-        record {
-          ending = finishing_of led.0 scene.world;
-          here = at_same scene.enders i (Some (finishing_of led.0 scene.world)) i refl;
-          is = ap (λ (x : Setting). ending x false) (ap (λ (x : Standing K). x.setting) (sym same_it) ∙ it.2);
-          calls = has_row.calls;
-        },
-        has_row.row,
-      );
-      map = map_on same hash scene n id place fits.slot fixed.batch_size None leaves v.map (known_lasts v.map refl) fits.map;
-      own = tt;
-      only = tt;
-      held = tt;
-      pair = tt;
-      idle = own_idle same hash scene n id place fits.slot fixed.batch_size None leaves fits.idle;
-    };
-    place = place;
-    its_slot = fits.slot;
-    mine = None;
-    leaves = leaves;
-    theirs = λ j t a b x ne at uses e. cc e;
-    alone = same_slot same hash fixed s h id v w at_id refl;
-    under = λ x at. ap (λ (y : View K V S). y.under) (same_some v x (sym at_id ∙ at));
-    knows = λ x at. subst (λ (y : View K V S). KnowsThen same hash fixed s h id y w) (same_some v x (sym at_id ∙ at)) knows;
-    gone = λ m e. (
-      unlent,
-      λ x at. (map, ap (λ (y : View K V S). y.own) (sym (same_some v x (sym at_id ∙ at))) ∙ owns, same_some map.number m (sym ends_it ∙ e)),
-    );
-    leant = inl (refl, λ x at. ap (λ (y : View K V S). y.slot) (same_some v x (sym at_id ∙ at)));
-    fresh = (so.fresh.0, fresh, numbered_on s.world.doings (Does act ∷ []) 0 so.fresh.0 so.fresh.0 so.fresh.2 refl);
-    row = knows_rests fixed n id v.slot rests;
-  }
-
-  begins : Goes (Holds same hash fixed) KeepsFor s s.memory id (λ x. x ≡ w)
-  begins =
-      moved same hash fixed s h id v at_id act may n led.3 s.memory w go
-      (record { own = ((λ a k. 0), tt); others = λ j ne theirs. refl; its = λ are. are; newest = λ other on. absurd (cc on); aside = λ j ne theirs. refl; seen = λ before b x none. absurd (cc none) })
-      (λ x. x ≡ w) refl
 
 -- what an end does is nobody's row
 deeds_no_rows : {T : Type 0} (defers : T → Option ℕ) (size i : ℕ) (deed : Deed) → AreNoRows defers size (events_of i deed)
@@ -237,7 +68,10 @@ deeds_no_rows defers size i (TakesCounter b) = ((λ j. tt), tt)
 deeds_no_rows defers size i (WritesRoot place word) = ((λ j. tt), tt)
 
 module _ {K V S : Type 0} (same : K → K → Bool) (hash : S → K → ℕ) (fixed : Fixed) (s : State (Node K V) (View K V S) (MapsWorld K V S)) (h : Holds same hash fixed s)
-    (id : ℕ) (v : View K V S) (at_id : view_of s id ≡ Some v) (machine : EndMap) (works : v.work ≡ Ends machine) where
+    (id : ℕ) (v : View K V S) (at_id : view_of s id ≡ Some v) (e : EndOfMap) (works : v.work ≡ Ends e) where
+  abbrev machine : EndMap
+  machine = e.machine
+
   abbrev scene_now : Scene K V
   scene_now = scene_of same hash fixed s h
 
@@ -256,20 +90,23 @@ module _ {K V S : Type 0} (same : K → K → Bool) (hash : S → K → ℕ) (fi
   abbrev me : ℕ
   me = caller_at id place_now
 
-  does : (v.slot ≡ slot_view.Rests) × HasEnding scene_now me machine × (scene_now.world.row me ≡ Rests)
+  does : (v.slot ≡ slot_view.Rests) × HasEnding scene_now me e × (scene_now.world.row me ≡ Rests)
   does = subst (λ (x : SeatWork K V S). DoesSo same hash scene_now me v.under v.slot v.map x) works fits_now.does
+
+  its_machine : does.1.ending.machine ≡ machine
+  its_machine = ap (λ (x : EndOfMap). x.machine) does.1.is
 
   acts : AllMayStep V same hash fixed.batch_size fixed.roots slot_of scene_now × AllAreActs V same hash fixed.batch_size fixed.roots slot_of scene_now
   acts = steps_are_acts {V = V} same hash fixed.batch_size fixed.roots slot_of scene_now all_now
 
   may_step : May Can Took value_at scene_now.world.memory (end_map_plan {K = K} {V = V} machine)
-  may_step = subst (λ (x : EndMap). May Can Took value_at scene_now.world.memory (end_map_plan {K = K} {V = V} x)) does.1.is (acts.0.endings me does.1.ending does.1.here)
+  may_step = subst (λ (x : EndMap). May Can Took value_at scene_now.world.memory (end_map_plan {K = K} {V = V} x)) its_machine (acts.0.endings me does.1.ending does.1.here)
 
   module _ (m2 : Mem (Node K V)) (out : Out (Node K V)) (made : Made scene_now.world.memory (end_map_plan {K = K} {V = V} machine) out m2) where
     granted : (g : Grant) × (ending_steps same hash fixed.batch_size fixed.roots slot_of scene_now g does.1.ending ≡ Some (m2, made.end))
     granted =
         acts.1.endings me does.1.ending does.1.here m2 made.end
-        (subst (λ (x : EndMap). Steps Took value_at scene_now.world.memory (end_map_plan {K = K} {V = V} x) m2 made.end) (sym does.1.is) made.steps)
+        (subst (λ (x : EndMap). Steps Took value_at scene_now.world.memory (end_map_plan {K = K} {V = V} x) m2 made.end) (sym its_machine) made.steps)
 
     step_may : MayDo V same hash fixed.batch_size fixed.roots slot_of (Does (StepsEnding me granted.0)) h.reached.0
     step_may = (
@@ -310,7 +147,7 @@ module _ {K V S : Type 0} (same : K → K → Bool) (hash : S → K → ℕ) (fi
     its_steps : Steps Took value_at scene_now.world.memory (end_map_plan {K = K} {V = V} d.machine) step_led.2 (step_led.3, step_led.4)
     its_steps =
         subst (λ (x : Finishing K V). Steps Took value_at scene_now.world.memory (end_map_plan {K = K} {V = V} x.machine) step_led.2 (step_led.3, step_led.4)) same_ending
-        (subst (λ (x : EndMap). Steps Took value_at scene_now.world.memory (end_map_plan {K = K} {V = V} x) step_led.2 (step_led.3, step_led.4)) (sym does.1.is)
+        (subst (λ (x : EndMap). Steps Took value_at scene_now.world.memory (end_map_plan {K = K} {V = V} x) step_led.2 (step_led.3, step_led.4)) (sym its_machine)
         (subst (λ (x : Mem (Node K V)). Steps Took value_at scene_now.world.memory (end_map_plan {K = K} {V = V} machine) x (step_led.3, step_led.4)) memory_is
         (subst (λ (x : EndMap × Settled (Node K V)). Steps Took value_at scene_now.world.memory (end_map_plan {K = K} {V = V} machine) m2 x) end_is made.steps)))
 
@@ -393,33 +230,77 @@ module _ {K V S : Type 0} (same : K → K → Bool) (hash : S → K → ℕ) (fi
       its_idle : (t : ℕ) → IsSlot t → t ≢ place_now → IsIdle n2 (caller_at id t)
       its_idle = own_idle same hash scene_now n2 id place_now fits_now.slot fixed.batch_size None step_leaves fits_now.idle
 
-    -- the end goes on
-    goes_on : (so_told : View K V S → Type 0) (next : Finishing K V) → next.machine ≡ step_led.3 → stage ≡ n2 (Some next)
-        → so_told record { slot = v.slot; under = v.under; map = v.map; by = v.by; own = v.own; work = Ends step_led.3; looks = made.looks; held = []; began = v.began; calls = v.calls }
-        → Goes (Holds same hash fixed) KeepsFor s m2 id so_told
-    goes_on so_told next its came is =
-        goes_by (Some next) (record { slot = v.slot; under = v.under; map = v.map; by = v.by; own = v.own; work = Ends step_led.3; looks = made.looks; held = []; began = v.began; calls = v.calls }) so_told came
-        refl refl refl refl refl refl (λ other on. cc on) refl
-        (record {
-          slot = fits_now.slot;
-          aside = fits_now.aside;
-          does = (does.0, record { ending = next; here = at_same scene_now.enders me (Some next) me refl; is = its; calls = does.1.calls }, its_row (Some next));
-          map = map_still (Some next);
-          own = own_still (Some next);
-          only = tt;
-          held = tt;
-          pair = tt;
-          idle = its_idle (Some next);
-        })
-        is
+    -- what it has looked at is the table to which it comes
+    abbrev HasLooked : Settled (Node K V) → Type 0
+    HasLooked told = AllLooked scene_now.world.memory (end_map_plan {K = K} {V = V} machine) m2 (step_led.3, told) made.looks
 
-    by : (so_told : View K V S → Type 0) (end : Settled (Node K V)) → so_told (ended_after v made.looks step_led.3 end) → EndingCame same hash fixed.batch_size fixed.roots slot_of scene_now me d did.w2 did.deed step_led.3 stage end
-        → Goes (Holds same hash fixed) KeepsFor s m2 id so_told
-    by so_told settled.Goes is came = goes_on so_told _ refl came.1 is
-    by so_told settled.Waits is came = absurd came
-    by so_told (settled.Gave value) is (b, was, taken, came) = goes_on so_told _ refl came is
-    by so_told settled.Done is came =
-        goes_by None (ended_after v made.looks step_led.3 settled.Done) so_told came.2 refl refl refl refl refl refl (λ other on. cc on) refl
+    abbrev IsTable : Settled (Node K V) → Type 0
+    IsTable told = (b : ℕ) (x : Node K V) → shown_in made.looks b ≡ Some x → (value_at w2.memory b ≡ Some x) × ComesTo {K = K} {V = V} b (step_led.3, told)
+
+    looked_at : (told : Settled (Node K V)) → HasLooked told → IsTable told
+    looked_at told seen b x shown =
+        let g = looked_table scene_now.world.memory m2 machine step_led.3 told made.looks seen b x shown in (ap (λ (y : Mem (Node K V)). value_at y b) (did.memory ∙ sym memory_is) ∙ g.0, g.1)
+
+    -- it is known how much was left, and that a step has left less
+    was_left : (machine ≡ d.machine) × (◌≡◌ {A = ℕ × ℕ} (e.left, e.along) (left_of d))
+    was_left =
+        let is : e ≡ end_of d = sym does.1.is ∙ ap (λ (f : Finishing K V). end_of f) same_ending in
+        (ap (λ (x : EndOfMap). x.machine) is, ap (λ (x : EndOfMap). (x.left, x.along)) is)
+
+    abbrev HasLess : Settled (Node K V) → ℕ × ℕ → Type 0
+    HasLess told after = GetsOn machine (step_led.3, told) (e.left, e.along) after
+
+    less_than : (told : Settled (Node K V)) (after : ℕ × ℕ) → GetsOn d.machine (step_led.3, told) (left_of d) after → HasLess told after
+    less_than told after less =
+        subst (λ (x : EndMap). GetsOn x (step_led.3, told) (e.left, e.along) after) (sym was_left.0)
+        (subst (λ (x : ℕ × ℕ). GetsOn d.machine (step_led.3, told) x after) (sym was_left.1) less)
+
+    -- the end goes on, and stands so then
+    module _ (next : Finishing K V) (comes : stage ≡ n2 (Some next)) where
+      facts_then : FinishingFacts same fixed.batch_size w2 me next
+      facts_then =
+          (subst (λ (x : Scene K V). AllStand same hash fixed.batch_size fixed.roots slot_of x) comes (h.course.next h.reached.0 (Does (StepsEnding me granted.0)) step_may).1).facts me next
+          (at_same scene_now.enders me (Some next) me refl)
+
+      goes_on : (so_told : View K V S → Type 0)
+          → ((b : ℕ) (x : Node K V) → shown_in made.looks b ≡ Some x → (value_at w2.memory b ≡ Some x) × IsAtTable next.machine next.machine.stands b)
+          → so_told record { slot = v.slot; under = v.under; map = v.map; by = v.by; own = v.own; work = Ends (end_of next); looks = made.looks; held = []; began = v.began; calls = v.calls }
+          → Goes (Holds same hash fixed) KeepsFor s m2 id so_told
+      goes_on so_told table is =
+          goes_by (Some next)
+          (record { slot = v.slot; under = v.under; map = v.map; by = v.by; own = v.own; work = Ends (end_of next); looks = made.looks; held = []; began = v.began; calls = v.calls }) so_told comes
+          refl refl refl refl refl refl (λ other on. cc on) refl
+          (record {
+            slot = fits_now.slot;
+            aside = fits_now.aside;
+            does = (does.0, record { ending = next; here = at_same scene_now.enders me (Some next) me refl; is = refl; calls = does.1.calls }, its_row (Some next));
+            map = map_still (Some next);
+            own = own_still (Some next);
+            only = tt;
+            held = tt;
+            table = table;
+            pair = tt;
+            idle = its_idle (Some next);
+          })
+          is
+
+    steps_so : Steps Took value_at scene_now.world.memory (end_map_plan {K = K} {V = V} d.machine) w2.memory (step_led.3, step_led.4)
+    steps_so =
+        subst (λ (x : Mem (Node K V)). Steps Took value_at scene_now.world.memory (end_map_plan {K = K} {V = V} d.machine) x (step_led.3, step_led.4)) (sym did.memory) its_steps
+
+    by : (so_told : View K V S → Type 0) (told : Settled (Node K V))
+        → ((left : ℕ × ℕ) → HasLess told left → so_told (ended_after v made.looks (record { machine = step_led.3; left = left.0; along = left.1 }) told))
+        → EndingCame same hash fixed.batch_size fixed.roots slot_of scene_now me d did.w2 did.deed step_led.3 stage told → HasLooked told
+        → Steps Took value_at scene_now.world.memory (end_map_plan {K = K} {V = V} d.machine) w2.memory (step_led.3, told) → Goes (Holds same hash fixed) KeepsFor s m2 id so_told
+    by so_told settled.Goes is came seen st =
+        let less = (ends_get_on V same fixed.batch_size scene_now.world w2 me d step_led.3 (d.waits ++ waiting_by did.deed) (all_now.facts me d step_led.1)).0 (facts_then _ came.1) st in
+        goes_on _ came.1 so_told (looked_at settled.Goes seen) (is _ (less_than settled.Goes _ less))
+    by so_told settled.Waits is came seen st = absurd came
+    by so_told (settled.Gave value) is (b, was, taken, came) seen st =
+        let less = (ends_get_on V same fixed.batch_size scene_now.world w2 me d step_led.3 (d.waits ++ waiting_by did.deed) (all_now.facts me d step_led.1)).1 b value (facts_then _ came) st in
+        goes_on _ came so_told (looked_at (settled.Gave value) seen) (is _ (less_than (settled.Gave value) _ less))
+    by so_told settled.Done is came seen st =
+        goes_by None (ended_after v made.looks (record { machine = step_led.3; left = 0; along = 0 }) settled.Done) so_told came.2 refl refl refl refl refl refl (λ other on. cc on) refl
         (record {
           slot = fits_now.slot;
           aside = fits_now.aside;
@@ -435,35 +316,51 @@ module _ {K V S : Type 0} (same : K → K → Bool) (hash : S → K → ℕ) (fi
           own = own_still None;
           only = tt;
           held = tt;
+          table = tt;
           pair = tt;
           idle = its_idle None;
         })
-        is
+        (is (0, 0) tt)
 
-    looks_same : (end : Settled (Node K V)) → (ended_after v made.looks step_led.3 end).looks ≡ made.looks
-    looks_same settled.Goes = refl
-    looks_same settled.Waits = refl
-    looks_same (settled.Gave value) = refl
-    looks_same settled.Done = refl
+    abbrev then_ : ℕ × ℕ → EndOfMap
+    then_ left = record { machine = step_led.3; left = left.0; along = left.1 }
+
+    looks_same : (told : Settled (Node K V)) → HasLooked told → (left : ℕ × ℕ) → (ended_after v made.looks (then_ left) told).looks ≡ made.looks
+    looks_same settled.Goes seen left = refl
+    looks_same settled.Waits seen left = refl
+    looks_same (settled.Gave value) seen left = refl
+    looks_same settled.Done seen left = sym (none_looked scene_now.world.memory m2 machine step_led.3 made.looks seen)
+
+    seen_then : HasLooked step_led.4
+    seen_then = subst (λ (x : EndMap × Settled (Node K V)). AllLooked scene_now.world.memory (end_map_plan {K = K} {V = V} machine) m2 x made.looks) end_is made.seen
 
     goes : (op : Op (Node K V)) → Goes (Holds same hash fixed) KeepsFor s m2 id (told same hash v op out)
     goes op =
         by (told same hash v op out) step_led.4
-        (subst (λ (k : SeatWork K V S). observed_by same hash v v.map k op out (ended_after v made.looks step_led.3 step_led.4)) (sym works) (
-          (step_led.3, step_led.4),
-          subst (λ (l : List (ℕ × Node K V)). FollowsBy (shown_in l) (end_map_plan {K = K} {V = V} machine) out (step_led.3, step_led.4)) (sym (looks_same step_led.4))
-              (subst (λ (e : EndMap × Settled (Node K V)). FollowsBy (shown_in made.looks) (end_map_plan {K = K} {V = V} machine) out e) end_is made.follows),
-          ap (λ (l : List (ℕ × Node K V)). ended_after v l step_led.3 step_led.4) (sym (looks_same step_led.4)),
-        )) step_led.8
+        (λ left less.
+        let same_looks = sym (looks_same step_led.4 seen_then left) in
+        subst (λ (k : SeatWork K V S). observed_by same hash v v.map k op out (ended_after v made.looks (then_ left) step_led.4)) (sym works) (
+          (then_ left, step_led.4),
+          subst (λ (l : List (ℕ × Node K V)). FollowsBy (shown_in l) (end_map_plan {K = K} {V = V} machine) out (step_led.3, step_led.4)) same_looks
+              (subst (λ (x : EndMap × Settled (Node K V)). FollowsBy (shown_in made.looks) (end_map_plan {K = K} {V = V} machine) out x) end_is made.follows),
+          ap (λ (l : List (ℕ × Node K V)). ended_after v l (then_ left) step_led.4) same_looks,
+          subst (λ (l : List (ℕ × Node K V)). MayFollow (shown_in l) (end_map_plan {K = K} {V = V} machine) out) same_looks made.may,
+          less,
+        )) step_led.8 seen_then steps_so
 
 module _ {K S : Type 0} (V : Type 0) (same : K → K → Bool) (hash : S → K → ℕ) where
-  pub endings_begin : EndingsBegin V same hash
-  endings_begin fixed id v map rests free owns s h at_id unlent = begins same hash fixed s h id v at_id map rests free owns unlent
-
   pub endings_go_on : EndingsContinue V same hash
-  endings_go_on fixed id v machine op works makes s h at_id =
-      let step = may_op (scene_now same hash fixed s h id v at_id machine works).world.memory (end_map_plan machine) op makes (may_step same hash fixed s h id v at_id machine works) in
-      let is = (so_now same hash fixed s h id v at_id machine works).memory in (
+  endings_go_on fixed id v e op works makes s h at_id =
+      let step = may_op (scene_now same hash fixed s h id v at_id e works).world.memory (end_map_plan e.machine) op makes (may_step same hash fixed s h id v at_id e works) in
+      let is = (so_now same hash fixed s h id v at_id e works).memory in (
         subst (λ (x : Mem (Node K V)). Can x op) (sym is) step.0,
-        λ out m2 took. goes same hash fixed s h id v at_id machine works m2 out (step.1 out m2 (subst (λ (x : Mem (Node K V)). Took x op out m2) is took)) op,
+        λ out m2 took. goes same hash fixed s h id v at_id e works m2 out (step.1 out m2 (subst (λ (x : Mem (Node K V)). Took x op out m2) is took)) op,
       )
+
+  pub endings_are_shown : EndingsAreShown V same hash
+  endings_are_shown fixed id b v e x works shown = (λ t h at. subst IsSome (sym (here t h at)) refl, λ y of. same_some y x (sym of.3 ∙ here of.0 of.1 of.2))
+    where
+      here : (t : State (Node K V) (View K V S) (MapsWorld K V S)) → Holds same hash fixed t → view_of t id ≡ Some v → value_at t.memory b ≡ Some x
+      here t h at =
+          ap (λ (m : Mem (Node K V)). value_at m b) h.so.memory
+          ∙ (subst (λ (k : SeatWork K V S). KnowsTable same hash t.world.scene k v.looks) works (h.so.seats id v at).table b x shown).0

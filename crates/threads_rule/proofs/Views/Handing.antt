@@ -10,7 +10,7 @@ use Rattle.seize_views.proofs.Views.Lists.{there, elsewhere}
 use Rattle.threads_rule.specs.Views.Begun.{shown_map}
 use Rattle.threads_rule.specs.Views.Looks.{shown_in}
 use Rattle.threads_rule.specs.Views.Promises.{MapsAreHandedOn}
-use Rattle.threads_rule.specs.Views.Rule.{MapsWorld, DoesSo, LooksAside, KnowsMap, KnowsPair, Fits, Holds, caller_at, acts_in}
+use Rattle.threads_rule.specs.Views.Rule.{MapsWorld, DoesSo, LooksAside, KnowsMap, KnowsPair, KnowsTable, Fits, Holds, caller_at, acts_in}
 use Rattle.threads_rule.specs.declared.view.Map.{Map}
 use Rattle.threads_rule.specs.declared.view.View.{View}
 use Rattle.threads_rule.specs.declared.view.SeatWork.{SeatWork}
@@ -43,6 +43,7 @@ module _ {K V S : Type 0} (same : K → K → Bool) (hash : S → K → ℕ) (fi
         own = f.own;
         only = subst (λ (x : SeatWork K V S). LooksAside u.under (Some map) x) (sym free) tt;
         held = tt;
+        table = subst (λ (x : SeatWork K V S). KnowsTable same hash scene x []) (sym free) tt;
         pair = subst (λ (x : SeatWork K V S). KnowsPair same hash scene (caller_at j (acts_in u.under u.slot)) (Some map) x u.calls) (sym free) tt;
         idle = f.idle;
       }

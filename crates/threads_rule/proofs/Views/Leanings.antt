@@ -15,7 +15,7 @@ use Rattle.seize_views.proofs.Views.Lists.{there, elsewhere}
 use Rattle.threads_rule.specs.Views.Begun.{leaning}
 use Rattle.threads_rule.specs.Views.Looks.{shown_in}
 use Rattle.threads_rule.specs.Views.Promises.{LeaningsBegin, LeaningsEnd}
-use Rattle.threads_rule.specs.Views.Rule.{MapsWorld, HasRow, DoesSo, LooksAside, KnowsPair, IsIdle, IsSlot, IsLeant, IsAside, Fits, Holds, KeepsFor, caller_at, acts_in}
+use Rattle.threads_rule.specs.Views.Rule.{MapsWorld, HasRow, DoesSo, LooksAside, KnowsPair, KnowsTable, IsIdle, IsSlot, IsLeant, IsAside, Fits, Holds, KeepsFor, caller_at, acts_in}
 use Rattle.threads_rule.specs.declared.view.View.{View}
 use Rattle.threads_rule.specs.declared.view.SeatWork.{SeatWork}
 use Rattle.threads_rule.specs.declared.view.SeatWork.TheVariants.{Nothing}
@@ -70,6 +70,7 @@ module _ {K V S : Type 0} (same : K → K → Bool) (hash : S → K → ℕ) (fi
           own = f.own;
           only = subst (λ (x : SeatWork K V S). LooksAside under v.map x) (sym free) tt;
           held = tt;
+          table = subst (λ (x : SeatWork K V S). KnowsTable same hash scene x []) (sym free) tt;
           pair = subst (λ (x : SeatWork K V S). KnowsPair same hash scene (caller_at id (acts_in under v.slot)) v.map x v.calls) (sym free) tt;
           idle = λ t is ne. idle t is;
         }

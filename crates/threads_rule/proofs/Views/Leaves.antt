@@ -17,7 +17,7 @@ use Rattle.seize_views.specs.declared.view.Has.{Has}
 use Rattle.seize_views.specs.declared.view.Has.TheVariants.{Nothing as NoBlock, Made, Seen, Both, Cut, Walks}
 use Rattle.seize_views.specs.declared.view.SlotView.{SlotView}
 use Rattle.seize_views.specs.declared.view.SlotView.TheVariants as slot_view
-use Rattle.threads_rule.specs.Views.Rule.{IsIdle, IsUsedSo, IsSlot, DoesSo, KnowsMap, KnowsPair, Fits, IsAside, IsLeant, caller_at, place_of, acts_in, section_of, IsInSection, IsOfCall, IsOfMap, IsHeld, AllHeld}
+use Rattle.threads_rule.specs.Views.Rule.{IsIdle, IsUsedSo, IsSlot, DoesSo, KnowsMap, KnowsPair, Fits, IsAside, IsLeant, caller_at, place_of, acts_in, section_of, IsInSection, IsOfCall, IsOfMap, IsHeld, AllHeld, KnowsTable}
 use Rattle.threads_rule.specs.declared.view.Map.{Map}
 use Rattle.threads_rule.specs.declared.view.BegunCall.{BegunCall}
 use Rattle.threads_rule.specs.declared.view.View.{View}
@@ -144,6 +144,13 @@ module _ {K V S : Type 0} (same : K → K → Bool) (hash : S → K → ℕ) whe
     pub keeps : Keeps s.world n.world
     pub passes : (c : ℕ) → i ≢ c → Passes deferred_word size s.world n.world c
 
+  -- who has looked at nothing has looked at no table
+  pub no_table : (scene : Scene K V) (work : SeatWork K V S) → KnowsTable same hash scene work []
+  no_table scene Nothing = tt
+  no_table scene (Calls machine) = tt
+  no_table scene (Makes mine m hasher opening) = tt
+  no_table scene (Ends machine) = λ b x none. absurd (cc none)
+
   -- nothing has changed but a call
   pub leaves_all : (size : ℕ) (s : Scene K V) (m i : ℕ) (it : Option (UnderWay K V K)) → Leaves size s (record s { calls = with_call s.calls m i it }) i None
   leaves_all size s m i it = record {
@@ -229,6 +236,13 @@ module _ {K V S : Type 0} (same : K → K → Bool) (hash : S → K → ℕ) whe
     all_last none None = tt
     all_last none (Some map) = λ e. cc (none, e)
 
+    table_on : (work : SeatWork K V S) (looks : List (ℕ × Node K V)) → ((b : ℕ) (x : Node K V) → value_at s.world.memory b ≡ Some x → IsOfCall same hash work b → value_at next.world.memory b ≡ Some x)
+        → KnowsTable same hash s work looks → KnowsTable same hash next work looks
+    table_on Nothing looks lasts f = tt
+    table_on (Calls machine) looks lasts f = tt
+    table_on (Makes mine m hasher opening) looks lasts f = tt
+    table_on (Ends machine) looks lasts f = λ b x shown. let here = f b x shown in (lasts b x here.0 here.1, here.1)
+
     pair_on : (k : ℕ) → k ≢ i → (map : Option (Map S)) (work : SeatWork K V S) (runs : List (BegunCall K V)) → KnowsPair same hash s k map work runs → KnowsPair same hash next k map work runs
     pair_on k ne map Nothing runs f = tt
     pair_on k ne map (Makes mine m hasher opening) runs f = tt
@@ -270,6 +284,7 @@ module _ {K V S : Type 0} (same : K → K → Bool) (hash : S → K → ℕ) whe
       map = map_on v.map stands f.map;
       own = map_on v.own owns f.own;
       only = f.only;
+      table = table_on v.work v.looks lasts f.table;
       held =
           held_on (caller_at j (acts_in v.under v.slot)) (λ e. ne (seat_apart j id (acts_in v.under v.slot) t f.slot its_slot e)) v.under v.slot within inside v.map stands f.map v.work lasts v.held f.held;
       pair = pair_on (caller_at j (acts_in v.under v.slot)) (λ e. ne (seat_apart j id (acts_in v.under v.slot) t f.slot its_slot e)) v.map v.work v.calls f.pair;

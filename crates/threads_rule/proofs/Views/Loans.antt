@@ -9,7 +9,7 @@ use Rattle.seize_views.specs.declared.view.Fixed.{Fixed}
 use Rattle.seize_views.proofs.Views.Lists.{there, elsewhere}
 use Rattle.threads_rule.specs.Views.Looks.{shown_in}
 use Rattle.threads_rule.specs.Views.Promises.{LoansBegin, LoansEnd}
-use Rattle.threads_rule.specs.Views.Rule.{MapsWorld, DoesSo, KnowsMap, KnowsPair, LooksAside, IsOwner, Fits, Holds, KeepsFor, caller_at, acts_in}
+use Rattle.threads_rule.specs.Views.Rule.{MapsWorld, DoesSo, KnowsMap, KnowsPair, LooksAside, KnowsTable, IsOwner, Fits, Holds, KeepsFor, caller_at, acts_in}
 use Rattle.threads_rule.specs.declared.view.Map.{Map}
 use Rattle.threads_rule.specs.declared.view.View.{View}
 use Rattle.threads_rule.specs.declared.view.SeatWork.{SeatWork}
@@ -44,6 +44,7 @@ module _ {K V S : Type 0} (same : K → K → Bool) (hash : S → K → ℕ) (fi
         own = f.own;
         only = subst (λ (x : SeatWork K V S). LooksAside v.under map x) (sym free) tt;
         held = tt;
+        table = subst (λ (x : SeatWork K V S). KnowsTable same hash scene x []) (sym free) tt;
         pair = subst (λ (x : SeatWork K V S). KnowsPair same hash scene (caller_at id (acts_in v.under v.slot)) map x v.calls) (sym free) tt;
         idle = f.idle;
       }

@@ -18,7 +18,7 @@ use Rattle.papaya_raw.specs.declared.machines.machine.Machine.{Machine}
 use Rattle.map_machines.specs.NewMap.{new_map_plan, opening}
 use Rattle.map_machines.specs.declared.new_map.NewMap.{NewMap}
 use Rattle.many_acts.specs.Given.CallersRows.{IsUsedAlike}
-use Rattle.many_acts.specs.Given.FinishesEndings.{Finishing, MakingStepsWithEndings}
+use Rattle.many_acts.specs.Given.FinishesEndings.{MakingStepsWithEndings}
 use Rattle.many_acts.specs.Given.FinishesMakings.{Beginning}
 use Rattle.many_acts.specs.Given.FinishesMaps.{Standing}
 use Rattle.many_acts.proofs.Given.CallersTogether.At.{at_same, at_other}
@@ -58,7 +58,7 @@ use Rattle.threads_rule.proofs.Views.Moved.{scene_of, all_stand, are_so, KnowsTh
 use Rattle.threads_rule.proofs.Views.Ran.{Ran, ran_stays, ran_keeps, ran_passes}
 use Rattle.threads_rule.proofs.Views.Sections.{as_users}
 use Rattle.many_acts.proofs.Given.CallersTogether.Slots.{alike_same}
-use Rattle.seize_words.proofs.General.{same_some}
+use Rattle.seize_words.proofs.General.{none_is, same_some}
 
 module _ {K V S : Type 0} (same : K → K → Bool) (hash : S → K → ℕ) (fixed : Fixed) (s : State (Node K V) (View K V S) (MapsWorld K V S)) (h : Holds same hash fixed s)
     (id : ℕ) (v : View K V S) (at_id : view_of s id ≡ Some v) where
@@ -153,6 +153,7 @@ module _ {K V S : Type 0} (same : K → K → Bool) (hash : S → K → ℕ) (fi
         own = map_on same hash scene n id place fits.slot fixed.batch_size None leaves v.own (all_last same hash scene n id place fits.slot fixed.batch_size None leaves stand v.own) fits.own;
         only = tt;
         held = tt;
+        table = tt;
         pair = tt;
         idle = own_idle same hash scene n id place fits.slot fixed.batch_size None leaves fits.idle;
       };
@@ -243,10 +244,6 @@ module _ {K V S : Type 0} (same : K → K → Bool) (hash : S → K → ℕ) (fi
       uses : (t : ℕ) → w2.uses t ≡ scene.world.uses t
       uses t = ap (λ (f : ℕ → Use). f t) (events_uses fixed.batch_size did.step.events scene.world w2 did.step.users did.step.runs)
 
-      none_ended : (o : Option (Finishing K V)) → scene.enders i ≡ o → scene.enders i ≡ None
-      none_ended None e = e
-      none_ended (Some f) e = let a = (all.alone i f e).1 in let b = does.1.here in absurd (cc (a, b))
-
       reached : Reached deferred_word fixed.batch_size scene.world
       reached = came_reached fixed.batch_size scene.world all.makings.standing.came
 
@@ -327,7 +324,7 @@ module _ {K V S : Type 0} (same : K → K → Bool) (hash : S → K → ℕ) (fi
           slot = tt;
           calls = does.1.calls;
           makers = at_same scene.makers i it i refl ∙ gone;
-          enders = none_ended (scene.enders i) refl;
+          enders = none_is (scene.enders i) (λ f e. (let a = (all.alone i f e).1 in let b = does.1.here in cc (a, b)));
         })
 
         goes_by : (x : View K V S) (so_told : View K V S → Type 0) → stage ≡ n2 → x.slot ≡ v.slot → x.under ≡ v.under → x.calls ≡ v.calls → ((other : Machine K V K) → x.work ≡ Calls other → ⊥) → x.held ≡ []
@@ -397,6 +394,7 @@ module _ {K V S : Type 0} (same : K → K → Bool) (hash : S → K → ℕ) (fi
               own = own_still maps2 None more (none_more it) (λ e one. absurd (cc one));
               only = tt;
               held = tt;
+              table = tt;
               pair = tt;
               idle = its_idle maps2 None more (none_more it) (λ e one. absurd (cc one));
             })
@@ -425,6 +423,7 @@ module _ {K V S : Type 0} (same : K → K → Bool) (hash : S → K → ℕ) (fi
               own = known;
               only = tt;
               held = tt;
+              table = tt;
               pair = tt;
               idle = its_idle maps2 None more (none_more it) (λ e one. absurd (cc one));
             })
@@ -444,6 +443,7 @@ module _ {K V S : Type 0} (same : K → K → Bool) (hash : S → K → ℕ) (fi
             own = own_still scene.maps (Some next) stand_on so.fresh.1.0 (λ e one. ap (λ (x : Beginning K). x.map) (sym (same_some next e one)));
             only = tt;
             held = tt;
+            table = tt;
             pair = tt;
             idle = its_idle scene.maps (Some next) stand_on so.fresh.1.0 (λ e one. ap (λ (x : Beginning K). x.map) (sym (same_some next e one)));
           })
@@ -460,6 +460,7 @@ module _ {K V S : Type 0} (same : K → K → Bool) (hash : S → K → ℕ) (fi
             own = own_still scene.maps None stand_on so.fresh.1.0 (λ e one. absurd (cc one));
             only = tt;
             held = tt;
+            table = tt;
             pair = tt;
             idle = its_idle scene.maps None stand_on so.fresh.1.0 (λ e one. absurd (cc one));
           })

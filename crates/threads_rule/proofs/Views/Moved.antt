@@ -125,8 +125,11 @@ module _ {K V S : Type 0} (same : K → K → Bool) (hash : S → K → ℕ) (fi
     before : (j : ℕ) → j ≢ id → view_of s j ≡ slice_get (slice_set s.views id w) j
     before j ne = sym (elsewhere s.views id j w ne)
 
+    all_then : AllStand same hash fixed.batch_size fixed.roots slot_of n
+    all_then = subst (λ (x : Scene K V). AllStand same hash fixed.batch_size fixed.roots slot_of x) comes led_to.0.1
+
     came : CameAbout fixed.batch_size n.world
-    came = subst (λ (x : Scene K V). CameAbout fixed.batch_size x.world) comes led_to.0.1.makings.standing.came
+    came = all_then.makings.standing.came
 
     -- on whom somebody leans is not the one who has left its slot, and is within its section still
 
@@ -191,7 +194,7 @@ module _ {K V S : Type 0} (same : K → K → Bool) (hash : S → K → ℕ) (fi
         (not_mine j x ne at_j) (within j x at_j)
         (λ b y is of.
         let f = are_so.seats j x at_j in
-        of_call_lasts same hash fixed.batch_size fixed.roots scene_of n all_stand came (caller_at id go.place) go.mine go.leaves (caller_at j (acts_in x.under x.slot))
+        of_call_lasts same hash fixed.batch_size fixed.roots scene_of n all_stand all_then (caller_at id go.place) go.mine go.leaves (caller_at j (acts_in x.under x.slot))
         (λ e. ne (seat_apart j id (acts_in x.under x.slot) go.place f.slot go.its_slot e)) b y is x.under x.slot x.map x.work f.does f.map of)
         (map_lasts j x ne at_j x.map refl) (own_lasts j x ne at_j x.own refl) (are_so.seats j x at_j)
 

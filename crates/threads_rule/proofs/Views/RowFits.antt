@@ -178,6 +178,7 @@ module _ {K V S : Type 0} (same : K → K → Bool) (hash : S → K → ℕ) (fi
             own = map_on same hash scene next id place its_place fixed.batch_size (use_of v.slot) leaves v.own (all_last same hash scene next id place its_place fixed.batch_size (use_of v.slot) leaves stand v.own) fits.own;
             only = tt;
             held = tt;
+            table = tt;
             pair = tt;
             idle = λ a is other. idle (goes_on (cases_eq there place)) a is other (cases_eq a place);
           };

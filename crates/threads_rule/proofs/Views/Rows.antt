@@ -70,7 +70,7 @@ module _ {K V S : Type 0} (same : K → K → Bool) (hash : S → K → ℕ) (fi
     had k x at (inl e) =
         let one = same_some w x (sym (here k e) ∙ at) in
         let f = h.so.seats id v at_id in
-        let g : Fits same hash s.world.scene id w = record { slot = f.slot; does = f.does; aside = f.aside; map = f.map; own = f.own; only = f.only; held = tt; pair = f.pair; idle = f.idle } in
+        let g : Fits same hash s.world.scene id w = record { slot = f.slot; does = f.does; aside = f.aside; map = f.map; own = f.own; only = f.only; held = tt; table = no_table same hash s.world.scene v.work; pair = f.pair; idle = f.idle } in
         record {
           knew = v;
           at = ap (view_of s) e ∙ at_id;

@@ -66,6 +66,7 @@ module _ {K S : Type 0} (V : Type 0) (same : K → K → Bool) (hash : S → K �
         own = tt;
         only = tt;
         held = tt;
+        table = tt;
         pair = tt;
         idle = λ t is ne. idle t is;
       }

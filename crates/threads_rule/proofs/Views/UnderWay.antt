@@ -50,7 +50,7 @@ use Rattle.seize_model.proofs.Alone.Histories.Reached.{Reached}
 use Rattle.seize_seats.specs.Seats.State.{State, view_of, Goes}
 use Rattle.seize_views.specs.declared.view.Fixed.{Fixed}
 use Rattle.threads_rule.specs.Views.Listed.{Called, calls_of, calls_then, has_progressed, IsNewest}
-use Rattle.threads_rule.specs.Views.Rule.{MapsWorld, DoesSo, KnowsMap, KnowsPair, LooksAside, Writes, AreRuns, Fits, AreSo, Holds, KeepsFor, caller_at, acts_in, section_of, IsInSection, IsOfCall, AllHeld}
+use Rattle.threads_rule.specs.Views.Rule.{MapsWorld, DoesSo, KnowsMap, KnowsPair, LooksAside, Writes, AreRuns, Fits, AreSo, Holds, KeepsFor, caller_at, acts_in, section_of, IsInSection, IsOfCall, AllHeld, KnowsTable}
 use Rattle.threads_rule.specs.Views.Reclaims.{IsNextOf, copies_at_row, disposes_at_row, calls_at_row, reserves_at_row, sweeps_at_row, is_at_row}
 use Rattle.threads_rule.specs.Views.Told.{HandsBack, call_after, called, newest_progress}
 use Rattle.threads_rule.specs.declared.view.Map.{Map}
@@ -389,6 +389,12 @@ module _ {K V S : Type 0} (same : K → K → Bool) (hash : S → K → ℕ) (fi
       its_steps : Steps Took value_at scene.world.memory step_plan m2 (came.machine, came.progress)
       its_steps = subst (λ (e : Machine K V K × Progress (Node K V)). Steps Took value_at scene.world.memory step_plan m2 e) end_is steps
 
+      -- it ends no map
+      no_end : (told : Progress (Node K V)) → KnowsTable same hash n (call_after came.machine told) looks
+      no_end (progress.Done answer) = tt
+      no_end (progress.Refused fault) = tt
+      no_end _ = tt
+
       -- the call that goes on was begun with the pair that it was begun with
       pair_then : (told : Progress (Node K V)) → KnowsPair same hash n i (Some map) (call_after came.machine told) (newest_progress came.progress v.calls)
       pair_then (progress.Done answer) = tt
@@ -410,6 +416,7 @@ module _ {K V S : Type 0} (same : K → K → Bool) (hash : S → K → ℕ) (fi
         only = subst (λ (x : Option (Map S)). LooksAside v.under x (call_after came.machine came.progress)) (sym knows)
             (only_then came.progress (step_writes same (hash map.hasher) scene.world.memory m2 came.machine came.progress machine its_steps));
         held = held_then;
+        table = no_end came.progress;
         pair = subst (λ (x : Option (Map S)). KnowsPair same hash n i x (call_after came.machine came.progress) (newest_progress came.progress v.calls)) (sym knows) (pair_then came.progress);
         idle = own_idle same hash scene n id place fits.slot fixed.batch_size None leaves fits.idle;
       }

@@ -1,5 +1,5 @@
 -- What a seat knows while it makes a map of no table, and once that is there.
-use Rattle.std.specs.Prelude.{false, ◌≡◌, ℕ, ◌+◌, ◌-◌, ◌^◌, ◌<◌, Some, None, Result, IfOk, IfErr}
+use Rattle.std.specs.Prelude.{true, false, ◌≡◌, ℕ, Bool, ◌+◌, ◌-◌, ◌^◌, ◌<◌, Some, None, Result, IfOk, IfErr}
 use Rattle.std.specs.Int.{IsPowerOfTwo}
 use Rattle.seize_words.specs.declared.fault.Fault.{Fault}
 use Rattle.seize.specs.declared.advance.Advance.{Advance}
@@ -44,23 +44,24 @@ pub record MayBegin (fixed : Fixed) (c : NewMap) : Type 0 where
   pub initial : IsPowerOfTwo given.initial
   pub rooted : 0 < fixed.roots
 
--- by this one, with this hasher
-abbrev pub IsThis : {S : Type 0} → S → NewMap → S → NewMap → Type 0
-IsThis hasher c h d = (h ≡ hasher) × (d ≡ c)
+-- for itself or for good, by this one, with this hasher
+abbrev pub IsThis : {S : Type 0} → Bool → S → NewMap → Bool → S → NewMap → Type 0
+IsThis own hasher c o h d = (o ≡ own) × (h ≡ hasher) × (d ≡ c)
 
 -- these plans are for just that
-abbrev pub PlansJust : {S : Type 0} → (S → NewMap → Type 0) → S → NewMap → Type 0
-PlansJust {S} plans hasher c = plans hasher c × ((h : S) (d : NewMap) → plans h d → IsThis hasher c h d)
+abbrev pub PlansJust : {S : Type 0} → (Bool → S → NewMap → Type 0) → Bool → S → NewMap → Type 0
+PlansJust {S} plans own hasher c = plans own hasher c × ((o : Bool) (h : S) (d : NewMap) → plans o h d → IsThis own hasher c o h d)
 
 module _ {K V S : Type 0} where
   -- it begins to make a map by one of these machines, with a hasher
-  abbrev pub BeginsMaking : (S → NewMap → Type 0) → View K V S → View K V S → Type 0
-  BeginsMaking plans v w = (m : ℕ) × (hasher : S) × (c : NewMap) × plans hasher c × (w ≡ making v false m hasher c)
+  abbrev pub BeginsMaking : (Bool → S → NewMap → Type 0) → View K V S → View K V S → Type 0
+  BeginsMaking plans v w = (m : ℕ) × (own : Bool) × (hasher : S) × (c : NewMap) × plans own hasher c × (w ≡ making v own m hasher c)
 
-  -- it makes a map of no table by this machine, which has not ended, with this hasher
-  pub record MakesMap (hasher : S) (opening : NewMap) (v : View K V S) : Type 0 where
+  -- it makes a map of no table by this machine, which has not ended, with this hasher: for itself, who has none yet, or for good
+  pub record MakesMap (own : Bool) (hasher : S) (opening : NewMap) (v : View K V S) : Type 0 where
     pub number : ℕ
-    pub works : v.work ≡ Makes false number hasher opening
+    pub works : v.work ≡ Makes own number hasher opening
+    pub yet : own ≡ true → v.own ≡ None
     pub early : IsEarly opening.stands
     pub none : opening.len ≡ 0
 
@@ -70,12 +71,22 @@ module _ {K V S : Type 0} where
     pub free : v.work ≡ Nothing
     pub knows : v.map ≡ Some record { number = number; setting = setting; hasher = hasher }
 
+  -- or the map is its own
+  pub record OwnsMap (hasher : S) (setting : Setting) (v : View K V S) : Type 0 where
+    pub number : ℕ
+    pub free : v.work ≡ Nothing
+    pub owns : v.own ≡ Some record { number = number; setting = setting; hasher = hasher }
+
+  abbrev pub HasIt : Bool → S → Setting → View K V S → Type 0
+  HasIt true hasher setting v = OwnsMap hasher setting v
+  HasIt false hasher setting v = HasMap hasher setting v
+
   -- what a step of the making tells: it goes on, the map is there, or it was refused
-  abbrev pub MadeSo : S → NewMap → Advance Setting → View K V S → Type 0
-  MadeSo hasher c progress.Goes v = MakesMap hasher c v
-  MadeSo hasher c progress.Waits v = ⊥
-  MadeSo hasher c (progress.Done setting) v = HasMap hasher setting v
-  MadeSo hasher c (progress.Refused fault) v = v.work ≡ Nothing
+  abbrev pub MadeSo : Bool → S → NewMap → Advance Setting → View K V S → Type 0
+  MadeSo own hasher c progress.Goes v = MakesMap own hasher c v
+  MadeSo own hasher c progress.Waits v = ⊥
+  MadeSo own hasher c (progress.Done setting) v = HasIt own hasher setting v
+  MadeSo own hasher c (progress.Refused fault) v = v.work ≡ Nothing
 
   -- What a making has come to: the map is there, with what was chosen, or nothing was made, and the seat knows what it has known. It leans on no owner, if it leant on none. No call has begun.
   pub record HasOutcome (hasher : S) (opening : NewMap) (answer : Result Setting Fault) (v w : View K V S) : Type 0 where
@@ -85,10 +96,31 @@ module _ {K V S : Type 0} where
     pub good : v.by ≡ None → w.by ≡ None
     pub calls : w.calls ≡ v.calls
 
-  -- the map that it knows is the same, but where it has made one
-  abbrev pub KnowsStill : Advance Setting → View K V S → View K V S → Type 0
-  KnowsStill (progress.Done setting) v w = Unit {0}
-  KnowsStill _ v w = w.map ≡ v.map
+  -- What a making of its own has come to: the map is its own, with what was chosen, or it has none. It knows the map that it has known, and leans on whom it leant.
+  pub record HasOwnOutcome (hasher : S) (opening : NewMap) (answer : Result Setting Fault) (v w : View K V S) : Type 0 where
+    pub made : IfOk answer (λ setting. OwnsMap hasher setting w × (chosen_of setting ≡ chosen_of opening.setting))
+    pub refused : IfErr answer (λ fault. (w.work ≡ Nothing) × (w.own ≡ None))
+    pub slot : side_of w ≡ side_of v
+    pub map : w.map ≡ v.map
+    pub by : w.by ≡ v.by
+    pub calls : w.calls ≡ v.calls
+
+  abbrev pub HasComeSo : Bool → S → NewMap → Result Setting Fault → View K V S → View K V S → Type 0
+  HasComeSo true = HasOwnOutcome
+  HasComeSo false = HasOutcome
+
+  -- Of maps it knows what it knew,
+  abbrev pub KnowsAlike : View K V S → View K V S → Type 0
+  KnowsAlike v w = (w.map ≡ v.map) × (w.by ≡ v.by) × (w.own ≡ v.own)
+
+  -- but for the one that it has made.
+  abbrev pub KnowsElse : Bool → View K V S → View K V S → Type 0
+  KnowsElse true v w = (w.map ≡ v.map) × (w.by ≡ v.by)
+  KnowsElse false v w = (w.by ≡ None) × (w.own ≡ v.own)
+
+  abbrev pub KnowsStill : Bool → Advance Setting → View K V S → View K V S → Type 0
+  KnowsStill own (progress.Done setting) v w = KnowsElse own v w
+  KnowsStill own _ v w = KnowsAlike v w
 
 -- what was chosen stays so
 abbrev pub StaysChosen : NewMap → NewMap → Advance Setting → Type 0

@@ -55,10 +55,10 @@ module _ {K V S : Type 0} where
   abbrev pub making : View K V S → Bool → ℕ → S → NewMap → View K V S
   making v own m hasher opening = record { slot = v.slot; under = v.under; map = v.map; by = v.by; own = v.own; work = Makes own m hasher opening; looks = []; held = []; began = v.began; calls = v.calls }
 
-  -- with the end of the map under way that was its own
-  abbrev pub ending_own : View K V S → Map S → View K V S
-  ending_own v map =
-      record { slot = v.slot; under = v.under; map = v.map; by = v.by; own = None; work = Ends (ending map.setting false); looks = []; held = []; began = v.began; calls = v.calls }
+  -- with the end of the map under way that was its own, of which so much is left
+  abbrev pub ending_own : View K V S → Map S → ℕ → View K V S
+  ending_own v map left =
+      record { slot = v.slot; under = v.under; map = v.map; by = v.by; own = None; work = Ends record { machine = ending map.setting false; left = left; along = 0 }; looks = []; held = []; began = v.began; calls = v.calls }
 
   -- with this known of its slot and its row, and begun there last
   abbrev pub with_slot : View K V S → SlotView (Node K V) → Began → View K V S

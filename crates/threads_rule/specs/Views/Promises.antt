@@ -11,7 +11,6 @@ use Rattle.map_machines.specs.declared.new_map.NewMap.{NewMap}
 use Rattle.papaya_raw.specs.EndMap.{end_map_plan}
 use Rattle.papaya_raw.specs.Machine.{machine_plan}
 use Rattle.papaya_raw.specs.declared.machines.asking.MachineReply.{MachineReply}
-use Rattle.papaya_raw.specs.declared.machines.end_map.EndMap.{EndMap}
 use Rattle.papaya_raw.specs.declared.machines.machine.Machine.{Machine}
 use Rattle.papaya_raw.specs.declared.machines.progress.Progress.{Progress}
 use Rattle.many_acts.specs.Given.PointsSteps.{AreLawful}
@@ -34,6 +33,7 @@ use Rattle.threads_rule.specs.Views.Begun.{machine_for, asked, calling, replied,
 use Rattle.threads_rule.specs.Views.Looks.{shown_in}
 use Rattle.threads_rule.specs.Views.Rule.{Holds, KeepsFor, Leans, LooksAside, section_of, at_rest}
 use Rattle.threads_rule.specs.Views.Told.{told, turned}
+use Rattle.threads_rule.specs.declared.view.EndOfMap.{EndOfMap}
 use Rattle.threads_rule.specs.declared.view.Map.{Map}
 use Rattle.threads_rule.specs.declared.view.View.{View}
 use Rattle.threads_rule.specs.declared.view.SeatWork.TheVariants.{Nothing, Calls, Makes, Ends}
@@ -137,13 +137,19 @@ module _ {K S : Type 0} (V : Type 0) (same : K → K → Bool) (hash : S → K �
   abbrev pub EndingsBegin : Type 0
   EndingsBegin =
       (fixed : Fixed) (id : ℕ) (v : View K V S) (map : Map S) → v.slot ≡ Rests → v.work ≡ Nothing → v.own ≡ Some map
-      → TurnsUnlent (Holds same hash fixed) KeepsFor Leans id v (λ w. w ≡ ending_own v map)
+      → TurnsUnlent (Holds same hash fixed) KeepsFor Leans id v (λ w. (left : ℕ) × (w ≡ ending_own v map left))
 
   -- And the next operation of an end may be made at any moment.
   abbrev pub EndingsContinue : Type 0
   EndingsContinue =
-      (fixed : Fixed) (id : ℕ) (v : View K V S) (machine : EndMap) (op : Op (Node K V))
-      → v.work ≡ Ends machine → op_in (end_map_plan machine) ≡ Some op → Allows (Holds same hash fixed) KeepsFor id v op (told same hash v op)
+      (fixed : Fixed) (id : ℕ) (v : View K V S) (end : EndOfMap) (op : Op (Node K V))
+      → v.work ≡ Ends end → op_in (end_map_plan end.machine) ≡ Some op → Allows (Holds same hash fixed) KeepsFor id v op (told same hash v op)
+
+  -- What the last step of one has looked at is there until its next one, with its value.
+  abbrev pub EndingsAreShown : Type 0
+  EndingsAreShown =
+      (fixed : Fixed) (id b : ℕ) (v : View K V S) (end : EndOfMap) (x : Node K V) → v.work ≡ Ends end → shown_in v.looks b ≡ Some x
+      → VisibleTo (Holds same hash fixed) id v b × ((y : Node K V) → IsValueOf (Holds same hash fixed) id v b y → y ≡ x)
 
   -- The next operation of a row that a seat has under way may be made at any moment,
   abbrev pub RowsContinue : Type 0

@@ -24,7 +24,7 @@ use Rattle.threads_rule.specs.declared.view.SeatWork.{SeatWork}
 use Rattle.threads_rule.specs.declared.view.SeatWork.TheVariants.{Nothing, Calls, Makes, Ends}
 
 -- who is busy does not rest
-busy_not : {T : Type 0} (slot : SlotView T) → IsQuiescent (busy slot) → ⊥
+pub busy_not : {T : Type 0} (slot : SlotView T) → IsQuiescent (busy slot) → ⊥
 busy_not (Inside t has) is = is
 busy_not _ is = is
 

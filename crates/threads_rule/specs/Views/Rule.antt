@@ -9,7 +9,6 @@ use Rattle.map_tables.specs.Chunks.{is_incremental}
 use Rattle.map_tables.specs.Nodes.{deferred_word}
 use Rattle.map_tables.specs.declared.node.Node.{Node}
 use Rattle.map_machines.specs.declared.new_map.NewMap.{NewMap}
-use Rattle.papaya_raw.specs.declared.machines.end_map.EndMap.{EndMap}
 use Rattle.papaya_raw.specs.declared.machines.machine.Machine.{Machine}
 use Rattle.papaya_raw.specs.declared.machines.machine.Machine.TheVariants as kinds
 use Rattle.many_acts.specs.Given.CallersClaims.{IsNoLookup}
@@ -22,6 +21,7 @@ use Rattle.many_acts.specs.Given.FinishesMakings.{Beginning}
 use Rattle.many_acts.specs.Given.FinishesMaps.{Standing}
 use Rattle.many_acts.specs.Given.ScenesScene.{Scene, slot_of}
 use Rattle.many_acts.specs.Given.ScenesDeclared.callers.TheConstants.{SLOTS}
+use Rattle.many_acts.specs.Lefts.{left_of}
 use Rattle.many_acts.specs.Looks.Sees.{IsOwnOf}
 use Rattle.many_acts.specs.Acts.Acts.{Wanted}
 use Rattle.many_acts.specs.Acts.Doings.{Doing, reclaiming}
@@ -36,11 +36,12 @@ use Rattle.seize_views.specs.declared.view.SlotView.{SlotView}
 use Rattle.seize_views.specs.declared.view.SlotView.TheVariants as slot_view
 use Rattle.threads_rule.specs.Views.Begun.{machine_for}
 use Rattle.threads_rule.specs.Views.Listed.{Called, plain, calls_of, seen_of, AreNumbered, IsItsOwn, IsNewest}
-use Rattle.threads_rule.specs.Views.Looks.{shown_in}
+use Rattle.threads_rule.specs.Views.Looks.{shown_in, IsAtTable}
 use Rattle.threads_rule.specs.Views.Reclaims.{IsNextOf}
 use Rattle.threads_rule.specs.Views.Told.{pair_in}
 use Rattle.threads_rule.specs.declared.view.Map.{Map}
 use Rattle.threads_rule.specs.declared.view.BegunCall.{BegunCall}
+use Rattle.threads_rule.specs.declared.view.EndOfMap.{EndOfMap}
 use Rattle.threads_rule.specs.declared.view.View.{View}
 use Rattle.threads_rule.specs.declared.view.SeatWork.{SeatWork}
 use Rattle.threads_rule.specs.declared.view.SeatWork.TheVariants.{Nothing, Calls, Makes, Ends}
@@ -169,11 +170,15 @@ module _ {K V : Type 0} where
     pub is : making.machine ≡ opening
     pub calls : (n : ℕ) → s.calls n i ≡ None
 
-  -- it has nothing under way but the end of a map, with this machine
-  pub record HasEnding (s : Scene K V) (i : ℕ) (machine : EndMap) : Type 0 where
+  -- how far the end of a map has come, and how much of it is left
+  abbrev pub end_of : Finishing K V → EndOfMap
+  end_of f = record { machine = f.machine; left = (left_of f).0; along = (left_of f).1 }
+
+  -- it has nothing under way but the end of a map, which is this one
+  pub record HasEnding (s : Scene K V) (i : ℕ) (end : EndOfMap) : Type 0 where
     pub ending : Finishing K V
     pub here : s.enders i ≡ Some ending
-    pub is : ending.machine ≡ machine
+    pub is : end_of ending ≡ end
     pub calls : (n : ℕ) → s.calls n i ≡ None
 
   -- nothing but this row, and its slot is used so
@@ -251,9 +256,10 @@ module _ {K V S : Type 0} (same : K → K → Bool) (hash : S → K → ℕ) whe
   abbrev pub IsInSection : Scene K V → Option (ℕ × ℕ) → SlotView (Node K V) → Option (Map S) → ℕ → Type 0
   IsInSection s under slot map b = (t : ℕ) × (section_of under slot ≡ Some t) × (holds t b s.world.log ≡ true) × IsOfMap map b s.world
 
-  -- the call that is under way has it: as its own pair, or to reclaim it next, by a row of the collector
+  -- the call that is under way has it: as its own pair, or to reclaim it next, by a row of the collector; or the end of a map, which has come to this table
   abbrev pub IsOfCall : SeatWork K V S → ℕ → Type 0
   IsOfCall (Calls machine) b = IsOwnOf machine b ⊎ IsNextOf machine b
+  IsOfCall (Ends end) b = IsAtTable end.machine end.machine.stands b
   IsOfCall work b = ⊥
 
   -- the block is there with this value, and why it lasts until the seat's next step
@@ -263,6 +269,11 @@ module _ {K V S : Type 0} (same : K → K → Bool) (hash : S → K → ℕ) whe
   abbrev pub AllHeld : Scene K V → Option (ℕ × ℕ) → SlotView (Node K V) → Option (Map S) → SeatWork K V S → List (ℕ × Node K V) → Type 0
   AllHeld s under slot map work [] = Unit {0}
   AllHeld s under slot map work (look ∷ looks) = IsHeld s under slot map work look × AllHeld s under slot map work looks
+
+  -- the last step of the end of a map has looked at the table to which that has come, which is there with this value
+  abbrev pub KnowsTable : Scene K V → SeatWork K V S → List (ℕ × Node K V) → Type 0
+  KnowsTable s (Ends end) looks = (b : ℕ) (x : Node K V) → shown_in looks b ≡ Some x → (value_at s.world.memory b ≡ Some x) × IsAtTable end.machine end.machine.stands b
+  KnowsTable s work looks = Unit {0}
 
   -- A call that a seat knows of is this one of the list: it began as that does on this map, in the slot of its caller, and has told the same last.
   pub record IsRun (call : Called K V) (run : BegunCall K V) : Type 0 where
@@ -288,6 +299,7 @@ module _ {K V S : Type 0} (same : K → K → Bool) (hash : S → K → ℕ) whe
     pub own : KnowsMap s v.own
     pub only : LooksAside v.under v.map v.work
     pub held : AllHeld s v.under v.slot v.map v.work v.held
+    pub table : KnowsTable s v.work v.looks
     pub pair : KnowsPair s (caller_at j (acts_in v.under v.slot)) v.map v.work v.calls
     pub idle : (t : ℕ) → IsSlot t → t ≢ acts_in v.under v.slot → IsIdle s (caller_at j t)
 

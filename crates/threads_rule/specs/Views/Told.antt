@@ -14,17 +14,18 @@ use Rattle.map_machines.specs.NewMap.{new_map_plan}
 use Rattle.map_machines.specs.declared.new_map.NewMap.{NewMap}
 use Rattle.papaya_raw.specs.EndMap.{end_map_plan}
 use Rattle.papaya_raw.specs.Machine.{machine_plan}
-use Rattle.papaya_raw.specs.declared.machines.end_map.EndMap.{EndMap}
 use Rattle.papaya_raw.specs.declared.machines.machine.Machine.{Machine}
 use Rattle.papaya_raw.specs.declared.machines.machine.Machine.TheVariants as kinds
 use Rattle.papaya_raw.specs.declared.machines.progress.Progress.{Progress}
 use Rattle.papaya_raw.specs.declared.machines.progress.Progress.TheVariants as progress
+use Rattle.many_acts.specs.Lefts.{GetsOn}
 use Rattle.seize_views.specs.Views.Told.{FollowsBy, told as row_told}
 use Rattle.seize_views.specs.declared.view.SlotView.{SlotView}
 use Rattle.threads_kinds.specs.CallKinds.Shows.{ToldAreVisible}
 use Rattle.threads_rule.specs.Views.Looks.{shown_in, TurnsTo, MayFollow}
 use Rattle.threads_rule.specs.declared.view.Map.{Map}
 use Rattle.threads_rule.specs.declared.view.BegunCall.{BegunCall}
+use Rattle.threads_rule.specs.declared.view.EndOfMap.{EndOfMap}
 use Rattle.threads_rule.specs.declared.view.View.{View}
 use Rattle.threads_rule.specs.declared.view.SeatWork.{SeatWork}
 use Rattle.threads_rule.specs.declared.view.SeatWork.TheVariants.{Nothing, Calls, Makes, Ends}
@@ -81,10 +82,10 @@ module _ {K V S : Type 0} where
   made_after v own m hasher looks opening (told_as.Refused fault) = record { slot = v.slot; under = v.under; map = v.map; by = v.by; own = v.own; work = Nothing; looks = looks; held = []; began = v.began; calls = v.calls }
   made_after v own m hasher looks opening told = record { slot = v.slot; under = v.under; map = v.map; by = v.by; own = v.own; work = Makes own m hasher opening; looks = looks; held = []; began = v.began; calls = v.calls }
 
-  -- and once the end of one has
-  abbrev pub ended_after : View K V S → List (ℕ × Node K V) → EndMap → Settled (Node K V) → View K V S
-  ended_after v looks machine settled.Done = record { slot = v.slot; under = v.under; map = v.map; by = v.by; own = v.own; work = Nothing; looks = looks; held = []; began = v.began; calls = v.calls }
-  ended_after v looks machine told = record { slot = v.slot; under = v.under; map = v.map; by = v.by; own = v.own; work = Ends machine; looks = looks; held = []; began = v.began; calls = v.calls }
+  -- and once the end of one has: its last step looks at nothing
+  abbrev pub ended_after : View K V S → List (ℕ × Node K V) → EndOfMap → Settled (Node K V) → View K V S
+  ended_after v looks end settled.Done = record { slot = v.slot; under = v.under; map = v.map; by = v.by; own = v.own; work = Nothing; looks = []; held = []; began = v.began; calls = v.calls }
+  ended_after v looks end told = record { slot = v.slot; under = v.under; map = v.map; by = v.by; own = v.own; work = Ends end; looks = looks; held = []; began = v.began; calls = v.calls }
 
 module _ {K V S : Type 0} (same : K → K → Bool) (hash : S → K → ℕ) where
   abbrev pub observed_by : View K V S → Option (Map S) → SeatWork K V S → Op (Node K V) → Out (Node K V) → View K V S → Type 0
@@ -97,8 +98,9 @@ module _ {K V S : Type 0} (same : K → K → Bool) (hash : S → K → ℕ) whe
   observed_by v None (Calls machine) op out w = ⊥
   observed_by v map (Makes own m hasher opening) op out w =
       (end : NewMap × Told Setting) × FollowsBy (shown_in w.looks) (new_map_plan opening) out end × (w ≡ made_after v own m hasher w.looks end.0 end.1)
-  observed_by v map (Ends machine) op out w =
-      (end : EndMap × Settled (Node K V)) × FollowsBy (shown_in w.looks) (end_map_plan machine) out end × (w ≡ ended_after v w.looks end.0 end.1)
+  observed_by v map (Ends e) op out w =
+      (end : EndOfMap × Settled (Node K V)) × FollowsBy (shown_in w.looks) (end_map_plan e.machine) out (end.0.machine, end.1) × (w ≡ ended_after v w.looks end.0 end.1)
+      × MayFollow (shown_in w.looks) (end_map_plan e.machine) out × GetsOn e.machine (end.0.machine, end.1) (e.left, e.along) (end.0.left, end.0.along)
 
   abbrev pub told : View K V S → Op (Node K V) → Out (Node K V) → View K V S → Type 0
   told v op out w = observed_by v v.map v.work op out w

@@ -5,7 +5,7 @@ use Rattle.threads_steps.proofs.within.Within.begins_to_make_as.Goals as goal
 pub turn-requires-clause-may : goal.turn-requires-clause-may
 turn-requires-clause-may g c =
     let x = c.args.self.now in
-    may_make g.K.PartialEq.eq g.S.Hashes.hash x.blocks.now.words.fixed x.seat.now.id x.seat.now.view g.B.Plans.plans c.args._hasher.now c.args._opening.now c.requires.plans
+    may_make g.K.PartialEq.eq g.S.Hashes.hash x.blocks.now.words.fixed x.seat.now.id x.seat.now.view g.B.Plans.plans c.args._own c.args._hasher.now c.args._opening.now c.requires.plans
     c.requires.may c.requires.rests c.requires.free
 
 pub turn-requires-clause-errand : goal.turn-requires-clause-errand
