@@ -1,4 +1,5 @@
 //! Passes of a collector that maps share: by them calls are made.
+ghost use Rattle.std.specs.Prelude.{◌≡◌, []};
 use crate::guard::CollectorGuard;
 use map_tables::Hashes;
 use std::hash::{Hash, RandomState};
@@ -15,7 +16,11 @@ pub struct CollectorPass<K: Eq + Hash + Drop, V: Drop, S: Hashes<K> = RandomStat
 
 impl<K: Eq + Hash + Drop, V: Drop, S: Hashes<K>> CollectorPass<K, V, S> {
     /// Makes one more of the memory of this one, whose collector has this number.
-    pub(crate) fn of(caller: &MapCaller<'_, K, V, S>, number: u64) -> Self {
+    pub(crate) fn of(caller: &MapCaller<'_, K, V, S>, number: u64) -> Self
+        ensures memory { result.seat.seat.base ≡ caller.now.blocks.now.words.id.views_name }
+        ensures number { result.number ≡ number }
+        ensures none { result.seat.seat.view.calls ≡ [] }
+    {
         CollectorPass {
             seat: caller.pass(),
             number,
@@ -24,7 +29,9 @@ impl<K: Eq + Hash + Drop, V: Drop, S: Hashes<K>> CollectorPass<K, V, S> {
     }
 
     /// Returns the number of its collector.
-    pub fn number(&self) -> u64 {
+    pub fn number(&self) -> u64
+        ensures { result ≡ self.now.number }
+    {
         self.number
     }
 

@@ -1,4 +1,5 @@
 pub mod Rows
+mod Loans
 mod Newcomers
 mod Passing
 pub mod Known

@@ -90,7 +90,7 @@ module _ {K V S : Type 0} where
     -- A pass that has come back may be sent so: guard and owner are of this memory, and have these numbers.
     pub record IsSentOn (asks : View K V S → Type 0) (guard owner : MapCaller K V S) (name guards owns : ℕ) (v : View K V S) : Type 0 where
       pub memory : guard.blocks.now.words.id.views_name ≡ name
-      pub one : owner.blocks.now ≡ guard.blocks.now
+      pub one : owner.seat.base ≡ name
       pub guards : guard.seat.id ≡ guards
       pub owns : owner.seat.id ≡ owns
       pub back : IsBack v

@@ -1,4 +1,10 @@
 //! Calls on a map that shares its collector: each is made by a pass, within the section of a guard, both of that collector.
+ghost use Rattle.std.specs.Prelude.{◌≡◌, Option, IfErr, IfOk, option_map};
+ghost use Rattle.papaya_maps.specs.Calls.{MapCameToHaveOn, MapCountedOn, MapGaveUpOn, MapHadOn, MapLackedOn, WasRefusedOn};
+ghost use Rattle.papaya_maps.specs.Sources.{IsForeign, IsForeignOr, IsOneOf, OneSource};
+ghost use Rattle.seize_words.specs.declared.fault.Fault.TheVariants.{ForeignGuard};
+ghost use Rattle.threads_callers.specs.Answers.{CameBack, has_stored};
+ghost use Rattle.threads_callers.specs.Given.ActsActs.{Insert, Remove, TryToInsert};
 use crate::guard::CollectorGuard;
 use crate::map::CollectorMap;
 use crate::pass::CollectorPass;
@@ -10,12 +16,16 @@ use threads_callers::{Attempt, Form};
 
 impl<'c, K: Eq + Hash + Drop, V: Drop, S: Hashes<K>> CollectorMap<'c, K, V, S> {
     /// Tells whether guard and pass are of the map's collector.
-    fn serves(&self, guard: &CollectorGuard<'c, K, V, S>, pass: &CollectorPass<K, V, S>) -> bool {
+    fn serves(&self, guard: &CollectorGuard<'c, K, V, S>, pass: &CollectorPass<K, V, S>) -> bool
+        ensures { IsOneOf self.now.number guard.now.number pass.now.number result }
+    {
         guard.number == self.number && pass.number == self.number
     }
 
     /// Returns what a call under this guard works with.
-    pub(crate) fn setting_under(&self, guard: &CollectorGuard<'c, K, V, S>) -> Setting {
+    pub(crate) fn setting_under(&self, guard: &CollectorGuard<'c, K, V, S>) -> Setting
+        ensures { result ≡ record self.now.setting { slot = guard.now.slot } }
+    {
         Setting {
             slot: guard.slot,
             ..self.setting
@@ -30,7 +40,13 @@ impl<'c, K: Eq + Hash + Drop, V: Drop, S: Hashes<K>> CollectorMap<'c, K, V, S> {
         key: &Q,
         guard: &'g CollectorGuard<'c, K, V, S>,
         pass: &mut CollectorPass<K, V, S>,
-    ) -> Result<Option<(&'g K, &'g V)>, Fault> {
+    ) -> Result<Option<(&'g K, &'g V)>, Fault>
+        requires pass { OneSource (pass.old.number, pass.old.seat.seat.base) (self.now.number, self.now.owner.seat.base) }
+        requires guard { OneSource (guard.now.number, guard.now.caller.seat.base) (self.now.number, self.now.owner.seat.base) }
+        ensures pass { (pass.new.seat.seat.base ≡ pass.old.seat.seat.base) × (pass.new.number ≡ pass.old.number) }
+        ensures foreign { IfErr result (λ fault. (fault ≡ ForeignGuard) × IsForeign self.now.number guard.now.number pass.old.number × (pass.new ≡ pass.old)) }
+        ensures had { IfOk result (λ found. MapHadOn K.eq S.hash guard.now.caller self.now.owner (Q.stands_for key.now) (option_map (λ pair. (pair.0.now, pair.1.now)) found) pass.old.seat.seat.view pass.new.seat.seat.view) }
+    {
         if !self.serves(guard, pass) {
             return Err(Fault::ForeignGuard);
         }
@@ -44,7 +60,13 @@ impl<'c, K: Eq + Hash + Drop, V: Drop, S: Hashes<K>> CollectorMap<'c, K, V, S> {
         key: &Q,
         guard: &'g CollectorGuard<'c, K, V, S>,
         pass: &mut CollectorPass<K, V, S>,
-    ) -> Result<Option<&'g V>, Fault> {
+    ) -> Result<Option<&'g V>, Fault>
+        requires pass { OneSource (pass.old.number, pass.old.seat.seat.base) (self.now.number, self.now.owner.seat.base) }
+        requires guard { OneSource (guard.now.number, guard.now.caller.seat.base) (self.now.number, self.now.owner.seat.base) }
+        ensures pass { (pass.new.seat.seat.base ≡ pass.old.seat.seat.base) × (pass.new.number ≡ pass.old.number) }
+        ensures foreign { IfErr result (λ fault. (fault ≡ ForeignGuard) × IsForeign self.now.number guard.now.number pass.old.number × (pass.new ≡ pass.old)) }
+        ensures had { IfOk result (λ found. (pair : Option (K × V)) × (option_map (λ value. value.now) found ≡ option_map (λ p. p.1) pair) × MapHadOn K.eq S.hash guard.now.caller self.now.owner (Q.stands_for key.now) pair pass.old.seat.seat.view pass.new.seat.seat.view) }
+    {
         let found = self.get_key_value(rt, key, guard, pass)?;
         Ok(value_of(found))
     }
@@ -58,7 +80,14 @@ impl<'c, K: Eq + Hash + Drop, V: Drop, S: Hashes<K>> CollectorMap<'c, K, V, S> {
         value: V,
         guard: &'g CollectorGuard<'c, K, V, S>,
         pass: &mut CollectorPass<K, V, S>,
-    ) -> Result<Option<&'g V>, Refused<K, V>> {
+    ) -> Result<Option<&'g V>, Refused<K, V>>
+        requires pass { OneSource (pass.old.number, pass.old.seat.seat.base) (self.now.number, self.now.owner.seat.base) }
+        requires guard { OneSource (guard.now.number, guard.now.caller.seat.base) (self.now.number, self.now.owner.seat.base) }
+        ensures pass { (pass.new.seat.seat.base ≡ pass.old.seat.seat.base) × (pass.new.number ≡ pass.old.number) }
+        ensures stored { IfOk result (λ old. (pair : Option (K × V)) × (option_map (λ value. value.now) old ≡ option_map (λ p. p.1) pair) × MapCameToHaveOn K.eq S.hash guard.now.caller self.now.owner key value pair pass.old.seat.seat.view pass.new.seat.seat.view) }
+        ensures refused { IfErr result (λ r. IsForeignOr self.now.number guard.now.number pass.old.number r.fault (pass.new ≡ pass.old) (WasRefusedOn K.eq S.hash guard.now.caller self.now.owner (Insert key value) r.fault pass.old.seat.seat.view pass.new.seat.seat.view)) }
+        ensures back { IfErr result (λ r. (r.key ≡ key) × (r.value ≡ value)) }
+    {
         if !self.serves(guard, pass) {
             let fault = Fault::ForeignGuard;
             return Err(Refused { fault, key, value });
@@ -74,7 +103,15 @@ impl<'c, K: Eq + Hash + Drop, V: Drop, S: Hashes<K>> CollectorMap<'c, K, V, S> {
         value: V,
         guard: &'g CollectorGuard<'c, K, V, S>,
         pass: &mut CollectorPass<K, V, S>,
-    ) -> Result<(&'g V, Attempt<K, V>), Refused<K, V>> {
+    ) -> Result<(&'g V, Attempt<K, V>), Refused<K, V>>
+        requires pass { OneSource (pass.old.number, pass.old.seat.seat.base) (self.now.number, self.now.owner.seat.base) }
+        requires guard { OneSource (guard.now.number, guard.now.caller.seat.base) (self.now.number, self.now.owner.seat.base) }
+        ensures pass { (pass.new.seat.seat.base ≡ pass.old.seat.seat.base) × (pass.new.number ≡ pass.old.number) }
+        ensures tried { IfOk result (λ told. (found : K) × MapLackedOn K.eq S.hash guard.now.caller self.now.owner key value (has_stored told.1) (found, told.0.now) pass.old.seat.seat.view pass.new.seat.seat.view) }
+        ensures present { IfOk result (λ told. CameBack key value told.1) }
+        ensures refused { IfErr result (λ r. IsForeignOr self.now.number guard.now.number pass.old.number r.fault (pass.new ≡ pass.old) (WasRefusedOn K.eq S.hash guard.now.caller self.now.owner (TryToInsert key value) r.fault pass.old.seat.seat.view pass.new.seat.seat.view)) }
+        ensures back { IfErr result (λ r. (r.key ≡ key) × (r.value ≡ value)) }
+    {
         if !self.serves(guard, pass) {
             let fault = Fault::ForeignGuard;
             return Err(Refused { fault, key, value });
@@ -90,7 +127,13 @@ impl<'c, K: Eq + Hash + Drop, V: Drop, S: Hashes<K>> CollectorMap<'c, K, V, S> {
         key: &Q,
         guard: &'g CollectorGuard<'c, K, V, S>,
         pass: &mut CollectorPass<K, V, S>,
-    ) -> Result<Option<(&'g K, &'g V)>, Fault> {
+    ) -> Result<Option<(&'g K, &'g V)>, Fault>
+        requires pass { OneSource (pass.old.number, pass.old.seat.seat.base) (self.now.number, self.now.owner.seat.base) }
+        requires guard { OneSource (guard.now.number, guard.now.caller.seat.base) (self.now.number, self.now.owner.seat.base) }
+        ensures pass { (pass.new.seat.seat.base ≡ pass.old.seat.seat.base) × (pass.new.number ≡ pass.old.number) }
+        ensures removed { IfOk result (λ taken. MapGaveUpOn K.eq S.hash guard.now.caller self.now.owner (Q.stands_for key.now) (option_map (λ pair. (pair.0.now, pair.1.now)) taken) pass.old.seat.seat.view pass.new.seat.seat.view) }
+        ensures refused { IfErr result (λ fault. IsForeignOr self.now.number guard.now.number pass.old.number fault (pass.new ≡ pass.old) (WasRefusedOn K.eq S.hash guard.now.caller self.now.owner (Remove (Q.stands_for key.now)) fault pass.old.seat.seat.view pass.new.seat.seat.view)) }
+    {
         if !self.serves(guard, pass) {
             return Err(Fault::ForeignGuard);
         }
@@ -104,7 +147,13 @@ impl<'c, K: Eq + Hash + Drop, V: Drop, S: Hashes<K>> CollectorMap<'c, K, V, S> {
         key: &Q,
         guard: &'g CollectorGuard<'c, K, V, S>,
         pass: &mut CollectorPass<K, V, S>,
-    ) -> Result<Option<&'g V>, Fault> {
+    ) -> Result<Option<&'g V>, Fault>
+        requires pass { OneSource (pass.old.number, pass.old.seat.seat.base) (self.now.number, self.now.owner.seat.base) }
+        requires guard { OneSource (guard.now.number, guard.now.caller.seat.base) (self.now.number, self.now.owner.seat.base) }
+        ensures pass { (pass.new.seat.seat.base ≡ pass.old.seat.seat.base) × (pass.new.number ≡ pass.old.number) }
+        ensures removed { IfOk result (λ taken. (pair : Option (K × V)) × (option_map (λ value. value.now) taken ≡ option_map (λ p. p.1) pair) × MapGaveUpOn K.eq S.hash guard.now.caller self.now.owner (Q.stands_for key.now) pair pass.old.seat.seat.view pass.new.seat.seat.view) }
+        ensures refused { IfErr result (λ fault. IsForeignOr self.now.number guard.now.number pass.old.number fault (pass.new ≡ pass.old) (WasRefusedOn K.eq S.hash guard.now.caller self.now.owner (Remove (Q.stands_for key.now)) fault pass.old.seat.seat.view pass.new.seat.seat.view)) }
+    {
         let taken = self.remove_entry(rt, key, guard, pass)?;
         Ok(value_of(taken))
     }
@@ -114,7 +163,13 @@ impl<'c, K: Eq + Hash + Drop, V: Drop, S: Hashes<K>> CollectorMap<'c, K, V, S> {
         &self,
         guard: &CollectorGuard<'c, K, V, S>,
         pass: &mut CollectorPass<K, V, S>,
-    ) -> Result<u64, Fault> {
+    ) -> Result<u64, Fault>
+        requires pass { OneSource (pass.old.number, pass.old.seat.seat.base) (self.now.number, self.now.owner.seat.base) }
+        requires guard { OneSource (guard.now.number, guard.now.caller.seat.base) (self.now.number, self.now.owner.seat.base) }
+        ensures pass { (pass.new.seat.seat.base ≡ pass.old.seat.seat.base) × (pass.new.number ≡ pass.old.number) }
+        ensures foreign { IfErr result (λ fault. (fault ≡ ForeignGuard) × IsForeign self.now.number guard.now.number pass.old.number × (pass.new ≡ pass.old)) }
+        ensures counted { IfOk result (λ count. MapCountedOn K.eq S.hash guard.now.caller self.now.owner count pass.old.seat.seat.view pass.new.seat.seat.view) }
+    {
         if !self.serves(guard, pass) {
             return Err(Fault::ForeignGuard);
         }
@@ -123,7 +178,9 @@ impl<'c, K: Eq + Hash + Drop, V: Drop, S: Hashes<K>> CollectorMap<'c, K, V, S> {
 }
 
 /// Returns the value of a pair that is lent, if one is.
-pub(crate) fn value_of<'g, K, V>(found: Option<(&'g K, &'g V)>) -> Option<&'g V> {
+pub(crate) fn value_of<'g, K, V>(found: Option<(&'g K, &'g V)>) -> Option<&'g V>
+    ensures { option_map (λ value. value.now) result ≡ option_map (λ pair. pair.1.now) found.entry }
+{
     match found {
         Some((_, value)) => Some(value),
         None => None,

@@ -1,4 +1,13 @@
 //! What a pass does with a map within the section of a guard that is of the same collector.
+ghost use Rattle.std.specs.Prelude.{◌≡◌, Option, Ok, Some, IfErr, IfOk, IfSome, is_some, option_map};
+ghost use Rattle.papaya_maps.specs.Calls.{MapCameToHaveOn, MapCountedOn, MapGaveUpOn, MapHadOn, MapLackedOn, WasRefusedOn};
+ghost use Rattle.threads_callers.specs.Answers.{CameBack, has_stored};
+ghost use Rattle.threads_callers.specs.Given.ActsActs.{Insert, Remove, TryToInsert};
+ghost use Rattle.threads_callers.specs.Given.ErrandsCalling.{HasCalled, wanted_of};
+ghost use Rattle.threads_callers.specs.Given.StepsStoring.{making};
+ghost use Rattle.threads_callers.specs.Loans.{HasLent, names_of};
+ghost use Rattle.papaya_raw.specs.declared.machines.machine.Machine.TheVariants.{Key as KeyMachine};
+ghost use Rattle.map_tables.specs.declared.node.Node.TheVariants.{Pair};
 use crate::guard::CollectorGuard;
 use crate::map::CollectorMap;
 use crate::map::calls::value_of;
@@ -20,7 +29,12 @@ impl<'c, K: Eq + Hash + Drop, V: Drop, S: Hashes<K>> CollectorMap<'c, K, V, S> {
         key: &Q,
         guard: &'g CollectorGuard<'c, K, V, S>,
         pass: &mut CollectorPass<K, V, S>,
-    ) -> Option<(&'g K, &'g V)> {
+    ) -> Option<(&'g K, &'g V)>
+        requires pass { pass.old.seat.seat.base ≡ self.now.owner.seat.base }
+        requires guard { guard.now.caller.seat.base ≡ self.now.owner.seat.base }
+        ensures pass { (pass.new.seat.seat.base ≡ pass.old.seat.seat.base) × (pass.new.number ≡ pass.old.number) }
+        ensures had { MapHadOn K.eq S.hash guard.now.caller self.now.owner (Q.stands_for key.now) (option_map (λ pair. (pair.0.now, pair.1.now)) result) pass.old.seat.seat.view pass.new.seat.seat.view }
+    {
         let hash = key.hash_by(&self.hasher);
         let lookup = Lookup::new(self.setting.root, self.setting.mode, hash);
         let errand = Finds { rt, key, lookup };
@@ -39,7 +53,13 @@ impl<'c, K: Eq + Hash + Drop, V: Drop, S: Hashes<K>> CollectorMap<'c, K, V, S> {
         there: There,
         guard: &'g CollectorGuard<'c, K, V, S>,
         pass: &mut CollectorPass<K, V, S>,
-    ) -> Done<'g, 'c, K, V, S, Ran<K, V>> {
+    ) -> Done<'g, 'c, K, V, S, Ran<K, V>>
+        requires pass { pass.old.seat.seat.base ≡ self.now.owner.seat.base }
+        requires guard { guard.now.caller.seat.base ≡ self.now.owner.seat.base }
+        ensures pass { (pass.new.seat.seat.base ≡ pass.old.seat.seat.base) × (pass.new.number ≡ pass.old.number) }
+        ensures stored { HasLent K.eq S.hash guard.now.caller self.now.owner (λ v ran w. HasCalled K.eq S.hash (wanted_of (KeyMachine (making (record self.now.setting { slot = guard.now.slot }) (S.hash self.now.hasher key) there (Pair key value)))) ran.told ran.unstored v w)
+            (λ ran. names_of ran.told) result.answer (option_map (λ pair. (pair.0.now, pair.1.now)) result.gone) (option_map (λ pair. (pair.0.now, pair.1.now)) result.there) pass.old.seat.seat.view pass.new.seat.seat.view }
+    {
         let errand = Stores {
             rt,
             sleepers: self.owner.sleepers(),
@@ -63,7 +83,14 @@ impl<'c, K: Eq + Hash + Drop, V: Drop, S: Hashes<K>> CollectorMap<'c, K, V, S> {
         value: V,
         guard: &'g CollectorGuard<'c, K, V, S>,
         pass: &mut CollectorPass<K, V, S>,
-    ) -> Result<Option<&'g V>, Refused<K, V>> {
+    ) -> Result<Option<&'g V>, Refused<K, V>>
+        requires pass { pass.old.seat.seat.base ≡ self.now.owner.seat.base }
+        requires guard { guard.now.caller.seat.base ≡ self.now.owner.seat.base }
+        ensures pass { (pass.new.seat.seat.base ≡ pass.old.seat.seat.base) × (pass.new.number ≡ pass.old.number) }
+        ensures stored { IfOk result (λ old. (pair : Option (K × V)) × (option_map (λ value. value.now) old ≡ option_map (λ p. p.1) pair) × MapCameToHaveOn K.eq S.hash guard.now.caller self.now.owner key value pair pass.old.seat.seat.view pass.new.seat.seat.view) }
+        ensures refused { IfErr result (λ r. WasRefusedOn K.eq S.hash guard.now.caller self.now.owner (Insert key value) r.fault pass.old.seat.seat.view pass.new.seat.seat.view) }
+        ensures back { IfErr result (λ r. (r.key ≡ key) × (r.value ≡ value)) }
+    {
         let (ran, gone, _) = self
             .stores(rt, key, value, There::Puts, guard, pass)
             .parts();
@@ -81,7 +108,15 @@ impl<'c, K: Eq + Hash + Drop, V: Drop, S: Hashes<K>> CollectorMap<'c, K, V, S> {
         value: V,
         guard: &'g CollectorGuard<'c, K, V, S>,
         pass: &mut CollectorPass<K, V, S>,
-    ) -> Result<(&'g V, Attempt<K, V>), Refused<K, V>> {
+    ) -> Result<(&'g V, Attempt<K, V>), Refused<K, V>>
+        requires pass { pass.old.seat.seat.base ≡ self.now.owner.seat.base }
+        requires guard { guard.now.caller.seat.base ≡ self.now.owner.seat.base }
+        ensures pass { (pass.new.seat.seat.base ≡ pass.old.seat.seat.base) × (pass.new.number ≡ pass.old.number) }
+        ensures tried { IfOk result (λ told. (found : K) × MapLackedOn K.eq S.hash guard.now.caller self.now.owner key value (has_stored told.1) (found, told.0.now) pass.old.seat.seat.view pass.new.seat.seat.view) }
+        ensures present { IfOk result (λ told. CameBack key value told.1) }
+        ensures refused { IfErr result (λ r. WasRefusedOn K.eq S.hash guard.now.caller self.now.owner (TryToInsert key value) r.fault pass.old.seat.seat.view pass.new.seat.seat.view) }
+        ensures back { IfErr result (λ r. (r.key ≡ key) × (r.value ≡ value)) }
+    {
         let (ran, _, there) = self
             .stores(rt, key, value, There::Answers, guard, pass)
             .parts();
@@ -99,7 +134,13 @@ impl<'c, K: Eq + Hash + Drop, V: Drop, S: Hashes<K>> CollectorMap<'c, K, V, S> {
         key: &Q,
         guard: &'g CollectorGuard<'c, K, V, S>,
         pass: &mut CollectorPass<K, V, S>,
-    ) -> Result<Option<(&'g K, &'g V)>, Fault> {
+    ) -> Result<Option<(&'g K, &'g V)>, Fault>
+        requires pass { pass.old.seat.seat.base ≡ self.now.owner.seat.base }
+        requires guard { guard.now.caller.seat.base ≡ self.now.owner.seat.base }
+        ensures pass { (pass.new.seat.seat.base ≡ pass.old.seat.seat.base) × (pass.new.number ≡ pass.old.number) }
+        ensures removed { IfOk result (λ taken. MapGaveUpOn K.eq S.hash guard.now.caller self.now.owner (Q.stands_for key.now) (option_map (λ pair. (pair.0.now, pair.1.now)) taken) pass.old.seat.seat.view pass.new.seat.seat.view) }
+        ensures refused { IfErr result (λ fault. WasRefusedOn K.eq S.hash guard.now.caller self.now.owner (Remove (Q.stands_for key.now)) fault pass.old.seat.seat.view pass.new.seat.seat.view) }
+    {
         let errand = Removes {
             rt,
             sleepers: self.owner.sleepers(),
@@ -123,7 +164,12 @@ impl<'c, K: Eq + Hash + Drop, V: Drop, S: Hashes<K>> CollectorMap<'c, K, V, S> {
         &self,
         guard: &CollectorGuard<'c, K, V, S>,
         pass: &mut CollectorPass<K, V, S>,
-    ) -> u64 {
+    ) -> u64
+        requires pass { pass.old.seat.seat.base ≡ self.now.owner.seat.base }
+        requires guard { guard.now.caller.seat.base ≡ self.now.owner.seat.base }
+        ensures pass { (pass.new.seat.seat.base ≡ pass.old.seat.seat.base) × (pass.new.number ≡ pass.old.number) }
+        ensures counted { MapCountedOn K.eq S.hash guard.now.caller self.now.owner result pass.old.seat.seat.view pass.new.seat.seat.view }
+    {
         let mut machine: Machine<K, V> = Machine::Count(Sum::new(self.setting_under(guard)));
         let errand = Counts {
             hasher: &self.hasher,

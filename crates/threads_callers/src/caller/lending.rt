@@ -42,7 +42,7 @@ fn pair_on<'g, 'a, K: Eq, V, S: Hashes<K>>(
     word: u64,
 ) -> (&'g K, &'g V)
     requires own { seat.now.base ≡ guard.now.blocks.now.words.id.views_name }
-    requires one { owner.now.blocks.now ≡ guard.now.blocks.now }
+    requires one { owner.now.seat.base ≡ guard.now.blocks.now.words.id.views_name }
     requires under { (t : ℕ) × (seat.now.view.under ≡ Some (guard.now.seat.id, t)) }
     requires map { owner.now.seat.view.own ≡ seat.now.view.map }
     requires free { seat.now.view.work ≡ NoWork }
@@ -65,7 +65,7 @@ fn pair_if<'g, 'a, K: Eq, V, S: Hashes<K>>(
     named: Option<u64>,
 ) -> Option<(&'g K, &'g V)>
     requires own { seat.now.base ≡ guard.now.blocks.now.words.id.views_name }
-    requires one { owner.now.blocks.now ≡ guard.now.blocks.now }
+    requires one { owner.now.seat.base ≡ guard.now.blocks.now.words.id.views_name }
     requires under { (t : ℕ) × (seat.now.view.under ≡ Some (guard.now.seat.id, t)) }
     requires map { owner.now.seat.view.own ≡ seat.now.view.map }
     requires free { seat.now.view.work ≡ NoWork }
@@ -126,7 +126,7 @@ impl<'a, K: Eq, V, S: Hashes<K>> MapCaller<'a, K, V, S> {
         errand: E,
     ) -> Done<'g, 'a, K, V, S, A>
         requires own { pass.old.seat.base ≡ self.now.blocks.now.words.id.views_name }
-        requires one { owner.now.blocks.now ≡ self.now.blocks.now }
+        requires one { owner.now.seat.base ≡ self.now.blocks.now.words.id.views_name }
         requires may { MayDoOn (λ x. E.asks errand self.now.blocks.now.words.fixed x) self.now owner.now pass.old.seat.view }
         requires ends { AllEndThere (λ x answer y. E.did errand self.now.blocks.now.words.fixed x answer y) A.names }
         ensures own { pass.new.seat.base ≡ pass.old.seat.base }
