@@ -16,6 +16,11 @@ use Rattle.threads_callers.specs.Loans.{HasDoneOn, IsLentIf}
 use Rattle.threads_callers.specs.Standing.{known_as}
 use Rattle.threads_callers.specs.declared.caller.MapCaller.{MapCaller}
 
+-- it is this one, if a word is named, or none
+abbrev pub IsIf : {A : Type 0} → Option ℕ → Option A → Option A → Type 0
+IsIf None it result = result ≡ None
+IsIf (Some word) it result = result ≡ it
+
 -- a map that has this setting and this hasher is its own
 abbrev pub own_by : {K V S : Type 0} → View K V S → Option (Setting × S)
 own_by v = known_as v.own

@@ -13,6 +13,7 @@ use Rattle.papaya_raw.specs.declared.machines.progress.Answer.{Answer}
 use Rattle.papaya_raw.specs.declared.machines.progress.Answer.TheVariants.{Key as OfKey}
 use Rattle.seize_words.specs.declared.fault.Fault.{Fault}
 use Rattle.threads_errands.specs.Given.CallKindsKinds.{PairIsVisible}
+use Rattle.threads_errands.specs.Given.ErrandsCalling.{pair_there}
 use Rattle.threads_errands.specs.Given.ErrandsLooking.{StaysThere}
 use Rattle.threads_errands.specs.Given.ViewsBegun.{leaning, lent_map, returned_map}
 use Rattle.threads_errands.specs.Given.ViewsLooks.{shown_in}
@@ -27,13 +28,15 @@ use Rattle.threads_callers.specs.declared.caller.MapCaller.{MapCaller}
 abbrev pub Names : Type 0
 Names = Option ℕ × Option ℕ
 
+-- the pair that was replaced or removed, if one was
+abbrev pub gone_by : Answer → Option ℕ
+gone_by (OfKey (answers.Replaced old new)) = Some old
+gone_by (OfKey (answers.Removed word)) = Some word
+gone_by answer = None
+
 -- those that the answer of a call names
 abbrev pub names_in : Answer → Names
-names_in (OfKey (answers.Found word)) = (None, Some word)
-names_in (OfKey (answers.Stored word)) = (None, Some word)
-names_in (OfKey (answers.Replaced old new)) = (Some old, Some new)
-names_in (OfKey (answers.Removed word)) = (Some word, None)
-names_in answer = (None, None)
+names_in answer = (gone_by answer, pair_there answer)
 
 -- what was refused names none
 abbrev pub names_of : Result Answer Fault → Names

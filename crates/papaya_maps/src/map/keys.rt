@@ -1,7 +1,7 @@
 //! What a pass does with a map within the section of a guard that is of the same collector.
 ghost use Rattle.std.specs.Prelude.{◌≡◌, Option, Ok, Some, IfErr, IfOk, IfSome, is_some, option_map};
-ghost use Rattle.papaya_maps.specs.Calls.{MapCameToHaveOn, MapCountedOn, MapGaveUpOn, MapHadOn, MapLackedOn, WasRefusedOn};
-ghost use Rattle.threads_callers.specs.Answers.{CameBack, has_stored};
+ghost use Rattle.papaya_maps.specs.Calls.{IsIf, MapCameToHaveOn, MapCountedOn, MapGaveUpOn, MapHadOn, MapLackedOn, WasRefusedOn};
+ghost use Rattle.threads_callers.specs.Answers.{CameBack, has_stored, removed_by, replaced_by};
 ghost use Rattle.threads_callers.specs.Given.ActsActs.{Insert, Remove, TryToInsert};
 ghost use Rattle.threads_callers.specs.Given.ErrandsCalling.{HasCalled, wanted_of};
 ghost use Rattle.threads_callers.specs.Given.StepsStoring.{making};
@@ -14,12 +14,38 @@ use crate::map::calls::value_of;
 use crate::pass::CollectorPass;
 use map_machines::Lookup;
 use map_tables::{Hashes, Node};
-use papaya_raw::machines::{Machine, Sum, There};
+use papaya_raw::machines::{Answer, Machine, Sum, There};
 use seize_words::{Fault, Refused};
 use std::hash::Hash;
 use std::sync::Wait;
-use threads_callers::{Attempt, Done, Form, Ran, came_of, refused};
+use threads_callers::{Attempt, Done, Form, Ran, came_of, refused, removed, replaced};
 use threads_errands::{Counts, Finds, Removes, Stores};
+
+/// Returns the pair that is gone, if it was replaced.
+fn if_replaced<'g, K, V>(
+    answer: &Answer,
+    gone: Option<(&'g K, &'g V)>,
+) -> Option<(&'g K, &'g V)>
+    ensures { IsIf (replaced_by answer.now) gone.entry result }
+{
+    match replaced(answer) {
+        Some(_) => gone,
+        None => None,
+    }
+}
+
+/// Returns it, if it was removed.
+fn if_removed<'g, K, V>(
+    answer: &Answer,
+    gone: Option<(&'g K, &'g V)>,
+) -> Option<(&'g K, &'g V)>
+    ensures { IsIf (removed_by answer.now) gone.entry result }
+{
+    match removed(answer) {
+        Some(_) => gone,
+        None => None,
+    }
+}
 
 impl<'c, K: Eq + Hash + Drop, V: Drop, S: Hashes<K>> CollectorMap<'c, K, V, S> {
     /// Looks a key up.
@@ -95,7 +121,7 @@ impl<'c, K: Eq + Hash + Drop, V: Drop, S: Hashes<K>> CollectorMap<'c, K, V, S> {
             .stores(rt, key, value, There::Puts, guard, pass)
             .parts();
         match ran.told {
-            Ok(_) => Ok(value_of(gone)),
+            Ok(answer) => Ok(value_of(if_replaced(&answer, gone))),
             Err(fault) => Err(refused(fault, ran.unstored)),
         }
     }
@@ -154,7 +180,7 @@ impl<'c, K: Eq + Hash + Drop, V: Drop, S: Hashes<K>> CollectorMap<'c, K, V, S> {
             .lends(&self.owner, &mut pass.seat, errand)
             .parts();
         match told {
-            Ok(_) => Ok(gone),
+            Ok(answer) => Ok(if_removed(&answer, gone)),
             Err(fault) => Err(fault),
         }
     }
