@@ -12,6 +12,7 @@ use Rattle.play_moves.proofs.OneHistory.Named.{has_replaced_pair}
 use Rattle.play_moves.proofs.OneHistory.Whole.{has_counted}
 use Rattle.play_moves.specs.OneHistory.Calls.{FoundNone, FoundValue, HasInserted, HasOne, HasRefused, HasRemoved, HasRemovedPair, HasReplacedPair, HasTried}
 use Rattle.play_moves.specs.OneHistory.Whole.{HasCounted}
+use Rattle.play_moves.specs.Given.ViewsListed.{plain}
 use Rattle.seize_views.specs.declared.view.Fixed.{Fixed}
 use Rattle.seize_views.specs.declared.view.SlotView.{SlotView}
 use Rattle.seize_words.proofs.General.{same_some}

@@ -1,6 +1,7 @@
 pub mod Rows
 mod Loans
 mod Newcomers
+mod Owning
 mod Passing
 pub mod Known
 pub mod Named

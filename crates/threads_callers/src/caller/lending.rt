@@ -80,8 +80,7 @@ impl<'g, 'a, K: Eq, V, S: Hashes<K>, A: Naming, E: Errand<Node<K, V>, OfMaps<S>,
     ErrandWithTwo<Node<K, V>, OfMaps<S>> for OnLoan<'g, 'a, K, V, S, E> {
     type Answer = Done<'g, 'a, K, V, S, A>;
 
-    ghost asks = { λ f name fixed n u k o v. (f.guard.now.blocks.now.words.fixed ≡ fixed)
-        × IsSentOn (λ x answer y. E.did f.errand fixed x answer y) A.names (λ x. E.asks f.errand fixed x) f.guard.now f.owner.now name n k v };
+    ghost asks = { λ f name fixed n u k o v. IsSentOn (λ x answer y. E.did f.errand fixed x answer y) A.names (λ x. E.asks f.errand fixed x) f.guard.now f.owner.now name n k v };
 
     ghost did = { λ f fixed v done w. IsBack w
         × HasLent K.eq S.hash f.guard.now f.owner.now (λ x answer y. E.did f.errand fixed x answer y) A.names done.answer
