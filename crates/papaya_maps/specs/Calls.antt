@@ -6,7 +6,7 @@ use Rattle.papaya_raw.specs.declared.machines.progress.Answer.TheVariants as sai
 use Rattle.play_moves.specs.OneHistory.Calls.{FoundNone, FoundValue, HasInserted, HasOne, HasRefused, HasRemoved, HasRemovedPair, HasReplacedPair, HasTried}
 use Rattle.play_moves.specs.OneHistory.Whole.{HasCounted}
 use Rattle.seize_words.specs.declared.fault.Fault.{Fault}
-use Rattle.threads_callers.specs.Answers.{is_removed, removed_by, replaced_by}
+use Rattle.threads_callers.specs.Answers.{removed_by, replaced_by}
 use Rattle.threads_callers.specs.Given.ActsActs.{Count, Insert, Remove, TryToInsert, Wanted}
 use Rattle.threads_callers.specs.Given.ErrandsCalling.{is_put, outcome_of, pair_there}
 use Rattle.threads_callers.specs.Given.ErrandsLooking.{HasFound, HasRun}

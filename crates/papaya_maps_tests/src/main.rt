@@ -157,6 +157,6 @@ fn main(rt: HostRuntime) -> io::Result<()> {
     if all(&rt, alloc)? {
         Ok(())
     } else {
-        Err(io::Error::Other)
+        Err(io::Error::other("a line is not so"))
     }
 }

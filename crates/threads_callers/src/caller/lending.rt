@@ -1,10 +1,12 @@
 //! A pass does something with the map of an owner, within the section of a guard: both are lent for that, and so are the pairs that the answer names.
-ghost use Rattle.std.specs.Prelude.{◌≡◌, ℕ, Some, IfSome, option_map};
+ghost use Rattle.std.specs.Prelude.{◌≡◌, ℕ, IsSome, Some, IfSome, option_map};
+ghost use Rattle.seize_seats.specs.Seats.Lendings.{IsValueBy};
 ghost use Rattle.threads_callers.specs.Loans.{AllEndThere, HasLent, IsLentIf, IsLentOn, IsSentOn, MayDoOn};
 ghost use Rattle.threads_callers.specs.Passing.{IsBack};
 ghost use Rattle.threads_errands.specs.Given.CallKindsKinds.{PairIsVisible};
 ghost use Rattle.threads_errands.specs.Given.ViewsDeclared.view.SeatWork.TheVariants.{Nothing as NoWork};
 ghost use Rattle.threads_errands.specs.Given.ViewsLooks.{shown_in};
+ghost use Rattle.threads_errands.specs.Given.ViewsRule.{Holds};
 
 use crate::caller::MapCaller;
 use crate::caller::pass::{MapPassSeat, MapReturning, Resorting};
@@ -34,6 +36,27 @@ struct OnLoan<'g, 'a, K: Eq, V, S: Hashes<K>, E> {
     errand: E,
 }
 
+/// Returns the block that a seat shows while it leans on both.
+fn node_on<'g, 'a, K: Eq, V, S: Hashes<K>>(
+    seat: &Seat<Node<K, V>, OfMaps<S>>,
+    guard: &'g MapCaller<'a, K, V, S>,
+    owner: &'g MapCaller<'a, K, V, S>,
+    block: u64,
+) -> &'g Node<K, V>
+    requires own { seat.now.base ≡ guard.now.blocks.now.words.id.views_name }
+    requires one { owner.now.seat.base ≡ guard.now.blocks.now.words.id.views_name }
+    requires under { (t : ℕ) × (seat.now.view.under ≡ Some (guard.now.seat.id, t)) }
+    requires map { owner.now.seat.view.own ≡ seat.now.view.map }
+    requires free { seat.now.view.work ≡ NoWork }
+    requires shown { IsSome (shown_in seat.now.view.held block) }
+    ensures value { IsValueBy (Holds K.eq S.hash guard.now.blocks.now.words.fixed) seat.now.id seat.now.view guard.now.seat.id guard.now.seat.view
+        owner.now.seat.id owner.now.seat.view block result.now }
+    ensures shown { shown_in seat.now.view.held block ≡ Some result.now }
+{
+    leanings_begin::<K, V, S>();
+    guard.blocks.value_by(seat, &guard.seat, &owner.seat, block)
+}
+
 /// Returns the pair of this word, which a seat shows while it leans on both.
 fn pair_on<'g, 'a, K: Eq, V, S: Hashes<K>>(
     seat: &Seat<Node<K, V>, OfMaps<S>>,
@@ -49,9 +72,7 @@ fn pair_on<'g, 'a, K: Eq, V, S: Hashes<K>>(
     requires shown { PairIsVisible (shown_in seat.now.view.held) word }
     ensures { IsLentOn K.eq S.hash guard.now owner.now seat.now.id seat.now.view word (result.0.now, result.1.now) }
 {
-    leanings_begin::<K, V, S>();
-    let block = Link::block_of(word);
-    match guard.blocks.value_by(seat, &guard.seat, &owner.seat, block) {
+    match node_on(seat, guard, owner, Link::block_of(word)) {
         Node::Pair(key, value) => (key, value),
         Node::Table { .. } | Node::Shards => unreachable!(),
     }
