@@ -17,7 +17,7 @@ pub errand-requires-clause-ends : goal.errand-requires-clause-ends
 errand-requires-clause-ends g c = λ answer w did. at_rest (notes_of w).knows (Inside c.args.slot Nothing) did.0.0 tt
 
 pub returns-clause-inside : goal.returns-clause-inside
-returns-clause-inside g c = (knows_free c.errand.new.seat.view (Inside c.args.slot Nothing) tt c.errand.ensures.did.0.0).2.0
+returns-clause-inside g c = (knows_free c.errand.new.seat.view (Inside c.args.slot Nothing) tt c.errand.ensures.did.0.0).2
 
 pub returns-clause-free : goal.returns-clause-free
 returns-clause-free g c = (knows_free c.errand.new.seat.view (Inside c.args.slot Nothing) tt c.errand.ensures.did.0.0).1

@@ -19,7 +19,7 @@ pub errand-requires-clause-ends : goal.errand-requires-clause-ends
 errand-requires-clause-ends g c = λ answer w did. at_rest (notes_of w).knows (Outside c.args.slot) did.0 tt
 
 pub returns-clause-outside : goal.returns-clause-outside
-returns-clause-outside g c = (knows_free c.errand.new.seat.view (Outside c.args.slot) tt c.errand.ensures.did.0).2.0
+returns-clause-outside g c = (knows_free c.errand.new.seat.view (Outside c.args.slot) tt c.errand.ensures.did.0).2
 
 pub returns-clause-free : goal.returns-clause-free
 returns-clause-free g c = (knows_free c.errand.new.seat.view (Outside c.args.slot) tt c.errand.ensures.did.0).1

@@ -16,7 +16,7 @@ pub errand-requires-clause-ends : goal.errand-requires-clause-ends
 errand-requires-clause-ends g c = λ answer w did. at_rest (notes_of w).knows Rests did.0.0 tt
 
 pub returns-clause-rests : goal.returns-clause-rests
-returns-clause-rests g c = (knows_free c.errand.new.seat.view Rests tt c.errand.ensures.did.0.0).2.0
+returns-clause-rests g c = (knows_free c.errand.new.seat.view Rests tt c.errand.ensures.did.0.0).2
 
 pub returns-clause-free : goal.returns-clause-free
 returns-clause-free g c = (knows_free c.errand.new.seat.view Rests tt c.errand.ensures.did.0.0).1
