@@ -15,7 +15,9 @@ fn reclaimed<K: Eq + Hash + Drop, V: Drop, S: Hashes<K>>(
     map: HashMap<K, V, S>,
     (): (),
 ) -> (HashMap<K, V, S>, ())
-    ensures same { result.0 ≡ record map { home = result.0.home; seat = result.0.seat } }
+    ensures collector { result.0.collector ≡ map.collector }
+    ensures hasher { result.0.hasher ≡ map.hasher }
+    ensures setting { result.0.setting ≡ map.setting }
     ensures words { result.0.home.blocks.words.words ≡ map.home.blocks.words.words }
     ensures fixed { result.0.home.blocks.words.fixed ≡ map.home.blocks.words.fixed }
     ensures knows { result.0.seat.view ≡ freed map.seat.view }
