@@ -49,9 +49,9 @@ fn reclaimed<K: Eq + Hash + Drop, V: Drop, S: Hashes<K>>(
 }
 
 impl<K: Eq + Hash + Drop, V: Drop, S: Hashes<K>> HashMap<K, V, S> {
-    /// Reclaims all that waits in the map: nobody else has it meanwhile. A slot that a session has kept which was forgotten is free then, and each pair that was removed or
-    /// replaced, and each table that was left, is dropped. Pairs of the map stay. A pass that was made before serves no session that begins then. It is refused nothing,
-    /// and answers whether the map owns its collector, as each does.
+    /// Reclaims all that waits in the map: nobody else has it meanwhile. A slot that a session has kept which was forgotten is free then, and each pair that
+    /// was removed or replaced, and each table that was left, is dropped. Pairs of the map stay. A pass that was made before serves no session that begins
+    /// then. It is refused nothing, and answers whether the map owns its collector, as each does.
     pub fn reclaim_all(&mut self) -> bool
         ensures owns { result ≡ true }
         ensures collector { self.new.collector ≡ self.old.collector }
