@@ -1,1 +1,4 @@
 mod Calls
+mod Ends
+mod May
+mod Small
