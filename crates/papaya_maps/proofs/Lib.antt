@@ -2,3 +2,4 @@ mod Calls
 mod Ends
 mod May
 mod Small
+mod Storing

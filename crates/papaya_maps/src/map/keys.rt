@@ -3,7 +3,7 @@ ghost use Rattle.std.specs.Prelude.{◌≡◌, Option, Ok, Some, IfErr, IfOk, If
 ghost use Rattle.papaya_maps.specs.Calls.{IsIf, MapCameToHaveOn, MapCountedOn, MapGaveUpOn, MapHadOn, MapLackedOn, WasRefusedOn};
 ghost use Rattle.threads_callers.specs.Answers.{CameBack, has_stored, removed_by, replaced_by};
 ghost use Rattle.threads_callers.specs.Given.ActsActs.{Insert, Remove, TryToInsert};
-ghost use Rattle.threads_callers.specs.Given.ErrandsCalling.{HasCalled, wanted_of};
+ghost use Rattle.threads_callers.specs.Given.ErrandsCalling.{HasCalled, PutsOrLeaves, wanted_of};
 ghost use Rattle.threads_callers.specs.Given.StepsStoring.{making};
 ghost use Rattle.threads_callers.specs.Loans.{HasLent, names_of};
 ghost use Rattle.papaya_raw.specs.declared.machines.machine.Machine.TheVariants.{Key as KeyMachine};
@@ -80,21 +80,25 @@ impl<'c, K: Eq + Hash + Drop, V: Drop, S: Hashes<K>> CollectorMap<'c, K, V, S> {
         guard: &'g CollectorGuard<'c, K, V, S>,
         pass: &mut CollectorPass<K, V, S>,
     ) -> Done<'g, 'c, K, V, S, Ran<K, V>>
+        requires puts { PutsOrLeaves there }
         requires pass { pass.old.seat.seat.base ≡ self.now.owner.seat.base }
         requires guard { guard.now.caller.seat.base ≡ self.now.owner.seat.base }
         ensures pass { (pass.new.seat.seat.base ≡ pass.old.seat.seat.base) × (pass.new.number ≡ pass.old.number) }
         ensures stored { HasLent K.eq S.hash guard.now.caller self.now.owner (λ v ran w. HasCalled K.eq S.hash (wanted_of (KeyMachine (making (record self.now.setting { slot = guard.now.slot }) (S.hash self.now.hasher key) there (Pair key value)))) ran.told ran.unstored v w)
             (λ ran. names_of ran.told) result.answer (option_map (λ pair. (pair.0.now, pair.1.now)) result.gone) (option_map (λ pair. (pair.0.now, pair.1.now)) result.there) pass.old.seat.seat.view pass.new.seat.seat.view }
     {
+        let hash = self.hasher.hash_of(&key);
+        let setting = self.setting_under(guard);
+        let near = pass.near_under(guard);
         let errand = Stores {
             rt,
             sleepers: self.owner.sleepers(),
             hasher: &self.hasher,
-            setting: self.setting_under(guard),
-            hash: self.hasher.hash_of(&key),
+            setting,
+            hash,
             there,
             pair: Node::Pair(key, value),
-            near: pass.near_under(guard),
+            near,
         };
         let done = guard.caller.lends(&self.owner, &mut pass.seat, errand);
         pass.near = done.answer.near;
@@ -117,12 +121,16 @@ impl<'c, K: Eq + Hash + Drop, V: Drop, S: Hashes<K>> CollectorMap<'c, K, V, S> {
         ensures refused { IfErr result (λ r. WasRefusedOn K.eq S.hash guard.now.caller self.now.owner (Insert key value) r.fault pass.old.seat.seat.view pass.new.seat.seat.view) }
         ensures back { IfErr result (λ r. (r.key ≡ key) × (r.value ≡ value)) }
     {
-        let (ran, gone, _) = self
-            .stores(rt, key, value, There::Puts, guard, pass)
-            .parts();
-        match ran.told {
+        let done = self.stores(rt, key, value, There::Puts, guard, pass);
+        let (ran, gone, _) = done.parts();
+        let Ran {
+            told,
+            unstored,
+            near: _,
+        } = ran;
+        match told {
             Ok(answer) => Ok(value_of(if_replaced(&answer, gone))),
-            Err(fault) => Err(refused(fault, ran.unstored)),
+            Err(fault) => Err(refused(fault, unstored)),
         }
     }
 
@@ -143,13 +151,19 @@ impl<'c, K: Eq + Hash + Drop, V: Drop, S: Hashes<K>> CollectorMap<'c, K, V, S> {
         ensures refused { IfErr result (λ r. WasRefusedOn K.eq S.hash guard.now.caller self.now.owner (TryToInsert key value) r.fault pass.old.seat.seat.view pass.new.seat.seat.view) }
         ensures back { IfErr result (λ r. (r.key ≡ key) × (r.value ≡ value)) }
     {
-        let (ran, _, there) = self
-            .stores(rt, key, value, There::Answers, guard, pass)
-            .parts();
-        match (ran.told, there) {
-            (Ok(answer), Some((_, value))) => Ok((value, came_of(&answer, ran.unstored))),
-            (Err(fault), _) => Err(refused(fault, ran.unstored)),
-            (Ok(_), None) => unreachable!(),
+        let done = self.stores(rt, key, value, There::Answers, guard, pass);
+        let (ran, _, there) = done.parts();
+        let Ran {
+            told,
+            unstored,
+            near: _,
+        } = ran;
+        match told {
+            Ok(answer) => match there {
+                Some((_, lent)) => Ok((lent, came_of(&answer, unstored))),
+                None => unreachable!(),
+            },
+            Err(fault) => Err(refused(fault, unstored)),
         }
     }
 
@@ -167,18 +181,18 @@ impl<'c, K: Eq + Hash + Drop, V: Drop, S: Hashes<K>> CollectorMap<'c, K, V, S> {
         ensures removed { IfOk result (λ taken. MapGaveUpOn K.eq S.hash guard.now.caller self.now.owner (Q.stands_for key.now) (option_map (λ pair. (pair.0.now, pair.1.now)) taken) pass.old.seat.seat.view pass.new.seat.seat.view) }
         ensures refused { IfErr result (λ fault. WasRefusedOn K.eq S.hash guard.now.caller self.now.owner (Remove (Q.stands_for key.now)) fault pass.old.seat.seat.view pass.new.seat.seat.view) }
     {
+        let hash = key.hash_by(&self.hasher);
+        let setting = self.setting_under(guard);
         let errand = Removes {
             rt,
             sleepers: self.owner.sleepers(),
             hasher: &self.hasher,
-            setting: self.setting_under(guard),
-            hash: key.hash_by(&self.hasher),
+            setting,
+            hash,
             key,
         };
-        let (told, gone, _) = guard
-            .caller
-            .lends(&self.owner, &mut pass.seat, errand)
-            .parts();
+        let done = guard.caller.lends(&self.owner, &mut pass.seat, errand);
+        let (told, gone, _) = done.parts();
         match told {
             Ok(answer) => Ok(if_removed(&answer, gone)),
             Err(fault) => Err(fault),
@@ -196,7 +210,9 @@ impl<'c, K: Eq + Hash + Drop, V: Drop, S: Hashes<K>> CollectorMap<'c, K, V, S> {
         ensures pass { (pass.new.seat.seat.base ≡ pass.old.seat.seat.base) × (pass.new.number ≡ pass.old.number) }
         ensures counted { MapCountedOn K.eq S.hash guard.now.caller self.now.owner result pass.old.seat.seat.view pass.new.seat.seat.view }
     {
-        let mut machine: Machine<K, V> = Machine::Count(Sum::new(self.setting_under(guard)));
+        let setting = self.setting_under(guard);
+        let sum = Sum::new(setting);
+        let mut machine: Machine<K, V> = Machine::Count(sum);
         let errand = Counts {
             hasher: &self.hasher,
             machine: &mut machine,
