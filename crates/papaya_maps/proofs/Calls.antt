@@ -1,5 +1,5 @@
 -- That what a call on a map has come to is so in one finite map: by the newest call of the pass, by what it knew as that had ended.
-use Rattle.std.specs.Prelude.{◌<◌, ◌^◌, Option, Some, None, Result, Ok, Err, IfSome, is_some}
+use Rattle.std.specs.Prelude.{◌<◌, ◌^◌, Option, Some, None, Result, Ok, Err, IfSome, is_some, option_map}
 use Rattle.std.proofs.Common.{◌≡◌, ◌∙◌, ℕ, Bool, refl, sym, subst, ap}
 use Rattle.papaya_raw.specs.declared.machines.answer.KeyAnswer.TheVariants as answers
 use Rattle.papaya_raw.specs.declared.machines.progress.Answer.{Answer}
@@ -30,7 +30,7 @@ use Rattle.threads_callers.specs.Given.ViewsDeclared.view.BegunCall.{BegunCall}
 use Rattle.threads_callers.specs.Given.ViewsDeclared.view.View.{View}
 use Rattle.threads_callers.specs.Given.ViewsLooks.{shown_in}
 use Rattle.threads_callers.specs.Given.ViewsRule.{section_of}
-use Rattle.threads_callers.specs.Loans.{HasDoneOn, IsLentIf, gone_by}
+use Rattle.threads_callers.specs.Loans.{HasDoneOn, IsLentIf, gone_by, within}
 use Rattle.threads_callers.specs.declared.caller.MapCaller.{MapCaller}
 use Rattle.papaya_maps.specs.Calls.{IsIf, MapCameToHaveOn, MapCountedOn, MapGaveUpOn, MapHadOn, MapLackedOn, WasRefusedOn}
 
@@ -42,6 +42,16 @@ removed_one _ word is = absurd (cc is)
 replaced_one : (answer : Answer) (old : ℕ) → replaced_by answer ≡ Some old → (new : ℕ) × (answer ≡ said.Key (answers.Replaced old new))
 replaced_one (said.Key (answers.Replaced one new)) old is = (new, ap (λ (x : ℕ). said.Key (answers.Replaced x new)) (same_some one old is))
 replaced_one _ old is = absurd (cc is)
+
+-- what is one of two, or none, is so of what is made of them
+pub if_mapped : {A B : Type 0} (f : A → B) (o : Option ℕ) (it result : Option A) → IsIf o it result → IsIf o (option_map f it) (option_map f result)
+if_mapped f None it result is = ap (option_map f) is
+if_mapped f (Some word) it result is = ap (option_map f) is
+
+-- what is looked at through a look is the value of that, if there is one
+pub values : {A K V : Type 0} (now : A → K × V) (answer : Option A) → option_map (λ a. (now a).1) answer ≡ option_map (λ p. p.1) (option_map now answer)
+values now None = refl
+values now (Some a) = refl
 
 module _ {K V S : Type 0} (same : K → K → Bool) (hash : S → K → ℕ) (guard owner : MapCaller K V S) (small : guard.blocks.now.words.fixed.batch_size < 2 ^ 64) (v w : View K V S) where
   abbrev fixed : Fixed
@@ -131,8 +141,21 @@ module _ {K V S : Type 0} (same : K → K → Bool) (hash : S → K → ℕ) (gu
       → HasDoneOn (HasRun same hash wanted (outcome_of answer)) guard owner v w
   ran_on on = record { map = on.map; slot = on.slot; owned = on.owned; inside = on.inside; knew = on.knew; done = on.done.ran; back = on.back }
 
+  -- the same, as it has told this
+  abbrev pub told_on : {wanted : Wanted K V} {told answer : Result Answer Fault} {unstored : Option (Node K V)} → told ≡ answer → HasDoneOn (HasCalled same hash wanted told unstored) guard owner v w
+      → HasDoneOn (HasCalled same hash wanted answer unstored) guard owner v w
+  told_on {wanted} {told} {answer} {unstored} is on = record {
+    map = on.map;
+    slot = on.slot;
+    owned = on.owned;
+    inside = on.inside;
+    knew = on.knew;
+    done = subst (λ (r : Result Answer Fault). HasCalled same hash wanted r unstored (within v guard.seat.id on.slot owner.seat.id on.map) on.knew) is on.done;
+    back = on.back;
+  }
+
   -- what is gone by an answer is the pair that it says to be replaced, or removed, if it says so
-  replaced_gone : (knew : View K V S) (answer : Answer) (it old : Option (K × V)) → IsLentIf same hash guard owner knew (gone_by answer) it → IsIf (replaced_by answer) it old
+  pub replaced_gone : (knew : View K V S) (answer : Answer) (it old : Option (K × V)) → IsLentIf same hash guard owner knew (gone_by answer) it → IsIf (replaced_by answer) it old
       → IsLentIf same hash guard owner knew (replaced_by answer) old
   replaced_gone knew (said.Key (answers.Replaced was new)) it old lent is = subst (IsLentIf same hash guard owner knew (Some was)) (sym is) lent
   replaced_gone knew (said.Key answers.Absent) it old lent is = subst (IsLentIf same hash guard owner knew None) (sym is) tt
@@ -143,7 +166,7 @@ module _ {K V S : Type 0} (same : K → K → Bool) (hash : S → K → ℕ) (gu
   replaced_gone knew said.Swept it old lent is = subst (IsLentIf same hash guard owner knew None) (sym is) tt
   replaced_gone knew (said.Count n) it old lent is = subst (IsLentIf same hash guard owner knew None) (sym is) tt
 
-  removed_gone : (knew : View K V S) (answer : Answer) (it old : Option (K × V)) → IsLentIf same hash guard owner knew (gone_by answer) it → IsIf (removed_by answer) it old
+  pub removed_gone : (knew : View K V S) (answer : Answer) (it old : Option (K × V)) → IsLentIf same hash guard owner knew (gone_by answer) it → IsIf (removed_by answer) it old
       → IsLentIf same hash guard owner knew (removed_by answer) old
   removed_gone knew (said.Key (answers.Removed was)) it old lent is = subst (IsLentIf same hash guard owner knew (Some was)) (sym is) lent
   removed_gone knew (said.Key answers.Absent) it old lent is = subst (IsLentIf same hash guard owner knew None) (sym is) tt
