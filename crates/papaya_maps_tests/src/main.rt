@@ -6,6 +6,8 @@ use std::alloc::Global;
 use std::hash::{BuildHasherDefault, DefaultHasher};
 use std::io;
 use std::sync::Wait;
+use std::sync::atomic::AtomicU64;
+use std::sync::atomic::Ordering::SeqCst;
 use std::thread::{self, Threads};
 
 type Hashing = BuildHasherDefault<DefaultHasher>;
@@ -42,6 +44,40 @@ fn one_guard<R: Wait>(rt: &R, shared: &Shared) -> Told<bool> {
     let taken = a.remove(rt, &1, &guard, &mut pass)?;
     let found = [lent.copied(), its, replaced.copied(), taken.copied()];
     Ok(none.is_none() && other.is_none() && found == [Some(10), Some(20), Some(10), Some(11)])
+}
+
+/// A value that is counted as it is dropped.
+struct Counted<'d>(&'d AtomicU64);
+
+impl<'d> Drop for Counted<'d> {
+    fn drop(self) {
+        let Counted(count) = self;
+        let _ = count.fetch_add(1, SeqCst);
+    }
+}
+
+/// Tells how many values of the one map, and of the other one, were dropped once the other one has ended; and of the one once all is reclaimed.
+fn dropped<R: Wait>(rt: &R, alloc: Global) -> Told<bool> {
+    let (one, other) = (AtomicU64::new(0), AtomicU64::new(0));
+    let mut ids = IdSource::new();
+    let mut shared: SharedCollector<u64, Counted<'_>, Hashing> =
+        SharedCollector::new(alloc, &mut ids, 1, 2)?;
+    let stays = shared.builder(Hashing::default()).build()?;
+    let ends = shared.builder(Hashing::default()).build()?;
+    let guard = shared.guard()?;
+    let mut pass = shared.pass();
+    for key in 0..3 {
+        let _ = stays.insert(rt, key, Counted(&one), &guard, &mut pass)?;
+        let _ = ends.insert(rt, key, Counted(&other), &guard, &mut pass)?;
+    }
+    let _ = stays.insert(rt, 0, Counted(&one), &guard, &mut pass)?;
+    drop(ends);
+    let first = [one.load(SeqCst), other.load(SeqCst)];
+    drop(guard);
+    drop(stays);
+    shared.reclaim_all();
+    let then = [one.load(SeqCst), other.load(SeqCst)];
+    Ok(first == [0, 3] && then == [4, 3])
 }
 
 /// Stores these keys, each with itself as its value.
@@ -143,6 +179,8 @@ fn all<R: Threads + Wait + Sync + Print>(rt: &R, alloc: Global) -> io::Result<bo
     let mut is_so = tells(rt, "one guard serves two maps, and one ends meanwhile", so)?;
     let so = go_on(rt, &shared);
     is_so = tells(rt, "a map goes on while another one ends on a thread", so)? && is_so;
+    let so = dropped(rt, alloc);
+    is_so = tells(rt, "an ended map drops its values, each once, and no other ones", so)? && is_so;
     let so = foreign(rt, &shared, &other);
     is_so = tells(rt, "a guard and a pass of another collector are refused", so)? && is_so;
     match roots(rt, other) {

@@ -1,5 +1,5 @@
 -- A pass comes to lean on the owner of a map and on a guard, does something there, and comes back from both: that it may, and what that has come to.
-use Rattle.std.specs.Prelude.{List, Option, Some, None, IfSome}
+use Rattle.std.specs.Prelude.{Option, Some, None}
 use Rattle.std.proofs.Common.{◌≡◌, ◌⊎◌, ℕ, Bool, inl, inr, sym, subst, ap, ◌∙◌}
 use Rattle.map_tables.specs.declared.node.Node.{Node}
 use Rattle.seize_words.proofs.General.{same_some}
@@ -7,14 +7,12 @@ use Rattle.seize_seats.specs.Seats.State.{Learns}
 use Rattle.seize_views.specs.declared.view.Fixed.{Fixed}
 use Rattle.seize_views.specs.declared.view.Has.TheVariants.{Nothing as NoBlock}
 use Rattle.seize_views.specs.declared.view.SlotView.{SlotView}
-use Rattle.seize_views.specs.declared.view.SlotView.TheVariants.{Inside, Rests}
-use Rattle.threads_errands.specs.Given.ErrandsLooking.{StaysThere}
+use Rattle.seize_views.specs.declared.view.SlotView.TheVariants.{Inside}
 use Rattle.threads_errands.specs.Given.ViewsBegun.{leaning, lent_map, returned_map}
 use Rattle.threads_errands.specs.Given.ViewsPromises.{LeaningsBegin, LoansBegin}
 use Rattle.threads_errands.specs.Given.ViewsRule.{Holds, IsBy, KeepsFor, Leans, LeansOn, section_of}
 use Rattle.threads_errands.specs.Given.ViewsDeclared.view.Map.{Map}
 use Rattle.threads_errands.specs.Given.ViewsDeclared.view.View.{View}
-use Rattle.threads_errands.specs.Given.ViewsDeclared.view.SeatWork.{SeatWork}
 use Rattle.threads_errands.specs.Given.ViewsDeclared.view.SeatWork.TheVariants.{Nothing}
 use Rattle.threads_callers.specs.Loans.{BorrowsMap, EndsThere, Names, RestoresMap, back_from, within}
 use Rattle.threads_callers.specs.Passing.{BeginsUnder, IsBack, LeansNoMore}

@@ -1,10 +1,10 @@
-use Rattle.std.specs.Prelude.{Some, None, option_map}
+use Rattle.std.specs.Prelude.{Some, option_map}
 use Rattle.std.proofs.Common.{ℕ, ap, refl, sym, ◌∙◌}
 use Rattle.map_machines.specs.Lookup.{looking}
 use Rattle.threads_calls.proofs.Sessions.{may_look}
 use Rattle.papaya_maps.proofs.Calls.{had_on}
 use Rattle.papaya_maps.proofs.Ends.{finds_end}
-use Rattle.papaya_maps.proofs.May.{alone_in, its_known, its_map, look_too, may_on, on_both}
+use Rattle.papaya_maps.proofs.May.{alone_in, its_known, look_too, may_on, on_both}
 use Rattle.papaya_maps.proofs.Small.{small}
 use Rattle.papaya_maps.proofs.map.keys.CollectorMap.finds.Goals as goal
 

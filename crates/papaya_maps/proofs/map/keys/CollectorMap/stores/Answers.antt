@@ -1,5 +1,5 @@
 use Rattle.std.specs.Prelude.{Some}
-use Rattle.std.proofs.Common.{ap, refl, sym, subst, ◌∙◌}
+use Rattle.std.proofs.Common.{ap, refl, sym, ◌∙◌}
 use Rattle.papaya_maps.proofs.Ends.{call_ends}
 use Rattle.papaya_maps.proofs.May.{alone_in, call_too, its_bits, its_known, may_on, on_both}
 use Rattle.papaya_maps.proofs.Storing.{may_store}

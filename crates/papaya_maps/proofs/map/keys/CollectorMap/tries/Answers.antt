@@ -1,13 +1,10 @@
-use Rattle.std.specs.Prelude.{Result, Some, Err, option_map}
-use Rattle.std.proofs.Common.{ap, refl, sym, subst, ◌∙◌}
+use Rattle.std.specs.Prelude.{Err}
+use Rattle.std.proofs.Common.{ap, refl, sym, ◌∙◌}
 use Rattle.map_tables.specs.declared.node.Node.TheVariants.{Pair}
-use Rattle.papaya_raw.specs.declared.machines.progress.Answer.{Answer}
-use Rattle.seize_words.specs.declared.fault.Fault.{Fault}
 use Rattle.threads_callers.specs.Given.ActsActs.{TryToInsert}
-use Rattle.threads_callers.specs.Loans.{IsLentIf, names_of}
-use Rattle.papaya_maps.proofs.Calls.{lacked_on, refused_on, told_on}
+use Rattle.papaya_maps.proofs.Calls.{refused_on, told_on}
 use Rattle.papaya_maps.proofs.Small.{small}
-use Rattle.threads_callers.proofs.Answered.{came_back, one_back}
+use Rattle.threads_callers.proofs.Answered.{one_back}
 use Rattle.papaya_maps.proofs.map.keys.CollectorMap.tries.Goals as goal
 
 pub stores-done-requires : goal.stores-done-requires
