@@ -30,7 +30,7 @@ use Rattle.threads_callers.specs.Given.ViewsDeclared.view.BegunCall.{BegunCall}
 use Rattle.threads_callers.specs.Given.ViewsDeclared.view.View.{View}
 use Rattle.threads_callers.specs.Given.ViewsLooks.{shown_in}
 use Rattle.threads_callers.specs.Given.ViewsRule.{section_of}
-use Rattle.threads_callers.specs.Loans.{HasDoneOn, IsLentIf, gone_by, within}
+use Rattle.threads_owners.specs.Loans.{HasDoneOn, IsLentIf, gone_by, within}
 use Rattle.threads_callers.specs.declared.caller.MapCaller.{MapCaller}
 use Rattle.papaya_maps.specs.Calls.{IsIf, MapCameToHaveOn, MapCountedOn, MapGaveUpOn, MapHadOn, MapLackedOn, WasRefusedOn}
 

@@ -14,7 +14,7 @@ use Rattle.threads_callers.specs.Given.ErrandsCounting.{HasCounted}
 use Rattle.threads_callers.specs.Given.ErrandsLooking.{HasFound, HasLookedAt}
 use Rattle.threads_callers.specs.Given.ViewsDeclared.view.View.{View}
 use Rattle.threads_callers.specs.Given.ViewsLooks.{shown_in}
-use Rattle.threads_callers.specs.Loans.{AllEndThere, EndsThere, gone_by, names_of}
+use Rattle.threads_owners.specs.Loans.{AllEndThere, EndsThere, gone_by, names_of}
 
 module _ {K V S : Type 0} (same : K → K → Bool) (hash : S → K → ℕ) where
   looked_at : (key : K) (found : Option ℕ) (w : View K V S) → IfSome found (HasLookedAt same key w) → IfSome found (PairIsVisible (shown_in w.held))

@@ -16,7 +16,7 @@ use Rattle.threads_callers.specs.Given.ViewsDeclared.view.Map.{Map}
 use Rattle.threads_callers.specs.Given.ViewsDeclared.view.View.{View}
 use Rattle.threads_callers.specs.Given.ViewsRule.{MayWant, section_of}
 use Rattle.threads_callers.proofs.Known.{known}
-use Rattle.threads_callers.specs.Loans.{MayDoOn, within}
+use Rattle.threads_owners.specs.Loans.{MayDoOn, within}
 use Rattle.threads_callers.specs.declared.caller.MapCaller.{MapCaller}
 use Rattle.papaya_maps.specs.Calls.{own_by}
 

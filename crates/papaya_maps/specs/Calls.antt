@@ -12,7 +12,7 @@ use Rattle.threads_callers.specs.Given.ErrandsCalling.{is_put, outcome_of, pair_
 use Rattle.threads_callers.specs.Given.ErrandsLooking.{HasFound, HasRun}
 use Rattle.threads_callers.specs.Given.ViewsDeclared.view.View.{View}
 use Rattle.map_tables.specs.declared.setting.Setting.{Setting}
-use Rattle.threads_callers.specs.Loans.{HasDoneOn, IsLentIf}
+use Rattle.threads_owners.specs.Loans.{HasDoneOn, IsLentIf}
 use Rattle.threads_callers.specs.Standing.{known_as}
 use Rattle.threads_callers.specs.declared.caller.MapCaller.{MapCaller}
 

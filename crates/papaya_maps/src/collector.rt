@@ -4,6 +4,7 @@ ghost use Rattle.map_tables.specs.declared.resize_mode.ResizeMode.TheVariants.{I
 ghost use Rattle.seize.specs.Collector.{made_by};
 ghost use Rattle.seize.specs.Ids.{following, given};
 ghost use Rattle.seize_words.specs.declared.fault.Fault.TheVariants.{Memory};
+
 use crate::guard::{CollectorGuard, CollectorRegistration};
 use crate::map::CollectorMap;
 use crate::pass::CollectorPass;
@@ -16,6 +17,7 @@ use seize_words::Fault;
 use std::alloc::Global;
 use std::hash::{BuildHasher, Hash, RandomState};
 use threads_callers::{MapCaller, OfMaps, Sleepers, memory_for};
+use threads_owners::makes_own;
 
 /// For how many blocks its memory has numbers at first.
 const FIRST: u64 = 64;
@@ -189,7 +191,7 @@ impl<'c, K: Eq + Hash + Drop, V: Drop, S: Hashes<K> + Drop> CollectorMapBuilder<
         };
         let opening = NewMap::new(setting, collector.collector.roots(), 0);
         let mut owner = MapCaller::new(&collector.home.blocks, &collector.sleepers);
-        let setting = owner.makes_own(&hasher, opening)?;
+        let setting = makes_own(&mut owner, &hasher, opening)?;
         Ok(CollectorMap {
             owner,
             hasher,

@@ -8,12 +8,13 @@ ghost use Rattle.seize_views.specs.declared.view.SlotView.TheVariants.{Rests};
 mod calls;
 mod keys;
 
-pub(crate) use calls::value_of;
 use crate::session::CollectorSession;
+pub(crate) use calls::value_of;
 use map_tables::{Hashes, Setting};
 use seize_words::Fault;
 use std::hash::{Hash, RandomState};
 use threads_callers::MapCaller;
+use threads_owners::ends_own;
 
 /// A map that shares its collector with others. It may be lent to threads. As it is dropped it ends: its pairs are dropped at once, but those that its tables carry, which wait at its
 /// root; that one is free again once `SharedCollector::reclaim_all` has reclaimed them. The other maps of the collector go on meanwhile.
@@ -56,7 +57,7 @@ impl<'c, K: Eq + Hash + Drop, V: Drop, S: Hashes<K> + Drop> Drop for CollectorMa
             number: _,
         } = self;
         let mut owner = owner;
-        owner.ends_own(setting);
+        ends_own(&mut owner, setting);
         drop(owner);
     }
 }

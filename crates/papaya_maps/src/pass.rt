@@ -1,5 +1,6 @@
 //! Passes of a collector that maps share: by them calls are made.
 ghost use Rattle.std.specs.Prelude.{◌≡◌, []};
+
 use crate::guard::CollectorGuard;
 use map_tables::Hashes;
 use std::hash::{Hash, RandomState};

@@ -7,14 +7,13 @@ ghost use Rattle.threads_callers.specs.Answers.{CameBack, has_stored};
 ghost use Rattle.threads_callers.specs.Given.ActsActs.{Insert, Remove, TryToInsert};
 
 use crate::guard::{CollectorGuard, CollectorRegistration};
-use crate::map::CollectorMap;
-use crate::map::value_of;
+use crate::map::{CollectorMap, value_of};
 use crate::pass::CollectorPass;
 use map_tables::Hashes;
 use seize_words::{Fault, Refused};
 use std::hash::{Hash, RandomState};
 use std::sync::Wait;
-use threads_callers::{Attempt, Form};
+use threads_callers::{Attempt, Form, MapCaller};
 
 /// A session on a map that shares its collector. It may be sent to a thread, holds a slot within a section, and ends before its map does.
 #[derive(Drop)]
@@ -31,8 +30,12 @@ impl<'m, 'c, K: Eq + Hash + Drop, V: Drop, S: Hashes<K>> CollectorSession<'m, 'c
     pub(crate) fn begin(map: &'m CollectorMap<'c, K, V, S>) -> Result<Self, Fault>
         ensures map { IfOk result (λ session. session.map.now ≡ map.now) }
     {
-        let caller = map.owner.another();
-        let registration = CollectorRegistration::begin(caller, map.setting.batch_size, map.number)?;
+        let caller = MapCaller::new(map.owner.blocks, map.owner.sleepers);
+        let registration = CollectorRegistration::begin(
+            caller,
+            map.setting.batch_size,
+            map.number,
+        )?;
         let guard = registration.enter();
         Ok(CollectorSession {
             map,

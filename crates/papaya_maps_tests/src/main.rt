@@ -60,8 +60,9 @@ impl<'d> Drop for Counted<'d> {
 fn dropped<R: Wait>(rt: &R, alloc: Global) -> Told<bool> {
     let (one, other) = (AtomicU64::new(0), AtomicU64::new(0));
     let mut ids = IdSource::new();
-    let mut shared: SharedCollector<u64, Counted<'_>, Hashing> =
-        SharedCollector::new(alloc, &mut ids, 1, 2)?;
+    let mut shared: SharedCollector<u64, Counted<'_>, Hashing> = SharedCollector::new(
+        alloc, &mut ids, 1, 2,
+    )?;
     let stays = shared.builder(Hashing::default()).build()?;
     let ends = shared.builder(Hashing::default()).build()?;
     let guard = shared.guard()?;
@@ -133,10 +134,11 @@ fn foreign<R: Wait>(rt: &R, shared: &Shared, other: &Shared) -> Told<bool> {
     let by_pass = map.get(rt, &1, &guard, &mut strange);
     let by_guard = map.get(rt, &1, &far, &mut pass);
     let stored = map.insert(rt, 1, 2, &guard, &mut strange);
-    Ok(none
-        && matches!(by_pass, Err(Fault::ForeignGuard))
-        && matches!(by_guard, Err(Fault::ForeignGuard))
-        && matches!(stored, Err(refused) if refused.key == 1 && refused.value == 2))
+    Ok(
+        none && matches!(by_pass, Err(Fault::ForeignGuard))
+            && matches!(by_guard, Err(Fault::ForeignGuard))
+            && matches!(stored, Err(refused) if refused.key == 1 && refused.value == 2),
+    )
 }
 
 /// Leaves a map of this collector that has grown, and from which keys were removed meanwhile.
@@ -180,9 +182,17 @@ fn all<R: Threads + Wait + Sync + Print>(rt: &R, alloc: Global) -> io::Result<bo
     let so = go_on(rt, &shared);
     is_so = tells(rt, "a map goes on while another one ends on a thread", so)? && is_so;
     let so = dropped(rt, alloc);
-    is_so = tells(rt, "an ended map drops its values, each once, and no other ones", so)? && is_so;
+    is_so = tells(
+        rt,
+        "an ended map drops its values, each once, and no other ones",
+        so,
+    )? && is_so;
     let so = foreign(rt, &shared, &other);
-    is_so = tells(rt, "a guard and a pass of another collector are refused", so)? && is_so;
+    is_so = tells(
+        rt,
+        "a guard and a pass of another collector are refused",
+        so,
+    )? && is_so;
     match roots(rt, other) {
         Ok(so) => println!(rt; "roots: {so:?}")?,
         Err(fault) => println!(rt; "roots: {fault}")?,

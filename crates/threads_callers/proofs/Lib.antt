@@ -1,7 +1,5 @@
 pub mod Rows
-mod Loans
 mod Newcomers
-mod Owning
 mod Passing
 pub mod Known
 pub mod Named

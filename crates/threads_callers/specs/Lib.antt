@@ -1,5 +1,4 @@
 pub mod Answers
 pub mod Standing
 pub mod Passing
-pub mod Loans
 pub mod Given

@@ -4,13 +4,10 @@
 mod answers;
 mod caller;
 mod form;
-mod loans;
-mod naming;
 mod showing;
 
 pub use answers::{Attempt, Found, came_of, is_put, refused, removed, replaced, there, told_of};
-pub use caller::{Done, MapCaller, MapPassSeat};
+pub use caller::{MapCaller, MapPassSeat, MapReturning, Resorting};
 pub use form::Form;
-pub use naming::Naming;
 pub use showing::newcomer;
 pub use threads_errands::{Halt, OfMaps, Ran, Sleepers, Waiter, Within, memory_for};

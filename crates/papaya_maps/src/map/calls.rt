@@ -5,6 +5,7 @@ ghost use Rattle.papaya_maps.specs.Sources.{IsForeign, IsForeignOr, IsOneOf, One
 ghost use Rattle.seize_words.specs.declared.fault.Fault.TheVariants.{ForeignGuard};
 ghost use Rattle.threads_callers.specs.Answers.{CameBack, has_stored};
 ghost use Rattle.threads_callers.specs.Given.ActsActs.{Insert, Remove, TryToInsert};
+
 use crate::guard::CollectorGuard;
 use crate::map::CollectorMap;
 use crate::pass::CollectorPass;

@@ -5,9 +5,10 @@ ghost use Rattle.threads_callers.specs.Answers.{CameBack, has_stored, removed_by
 ghost use Rattle.threads_callers.specs.Given.ActsActs.{Insert, Remove, TryToInsert};
 ghost use Rattle.threads_callers.specs.Given.ErrandsCalling.{HasCalled, PutsOrLeaves, wanted_of};
 ghost use Rattle.threads_callers.specs.Given.StepsStoring.{making};
-ghost use Rattle.threads_callers.specs.Loans.{HasLent, names_of};
+ghost use Rattle.threads_owners.specs.Loans.{HasLent, names_of};
 ghost use Rattle.papaya_raw.specs.declared.machines.machine.Machine.TheVariants.{Key as KeyMachine};
 ghost use Rattle.map_tables.specs.declared.node.Node.TheVariants.{Pair};
+
 use crate::guard::CollectorGuard;
 use crate::map::CollectorMap;
 use crate::map::calls::value_of;
@@ -18,14 +19,12 @@ use papaya_raw::machines::{Answer, Machine, Sum, There};
 use seize_words::{Fault, Refused};
 use std::hash::Hash;
 use std::sync::Wait;
-use threads_callers::{Attempt, Done, Form, Ran, came_of, refused, removed, replaced};
+use threads_callers::{Attempt, Form, Ran, came_of, refused, removed, replaced};
 use threads_errands::{Counts, Finds, Removes, Stores};
+use threads_owners::{Done, lends};
 
 /// Returns the pair that is gone, if it was replaced.
-fn if_replaced<'g, K, V>(
-    answer: &Answer,
-    gone: Option<(&'g K, &'g V)>,
-) -> Option<(&'g K, &'g V)>
+fn if_replaced<'g, K, V>(answer: &Answer, gone: Option<(&'g K, &'g V)>) -> Option<(&'g K, &'g V)>
     ensures { IsIf (replaced_by answer.now) gone.entry result }
 {
     match replaced(answer) {
@@ -35,10 +34,7 @@ fn if_replaced<'g, K, V>(
 }
 
 /// Returns it, if it was removed.
-fn if_removed<'g, K, V>(
-    answer: &Answer,
-    gone: Option<(&'g K, &'g V)>,
-) -> Option<(&'g K, &'g V)>
+fn if_removed<'g, K, V>(answer: &Answer, gone: Option<(&'g K, &'g V)>) -> Option<(&'g K, &'g V)>
     ensures { IsIf (removed_by answer.now) gone.entry result }
 {
     match removed(answer) {
@@ -64,10 +60,7 @@ impl<'c, K: Eq + Hash + Drop, V: Drop, S: Hashes<K>> CollectorMap<'c, K, V, S> {
         let hash = key.hash_by(&self.hasher);
         let lookup = Lookup::new(self.setting.root, self.setting.mode, hash);
         let errand = Finds { rt, key, lookup };
-        guard
-            .caller
-            .lends(&self.owner, &mut pass.seat, errand)
-            .there
+        lends(&guard.caller, &self.owner, &mut pass.seat, errand).there
     }
 
     /// Stores a pair, of which it is said what becomes of it where its key is there.
@@ -100,7 +93,7 @@ impl<'c, K: Eq + Hash + Drop, V: Drop, S: Hashes<K>> CollectorMap<'c, K, V, S> {
             pair: Node::Pair(key, value),
             near,
         };
-        let done = guard.caller.lends(&self.owner, &mut pass.seat, errand);
+        let done = lends(&guard.caller, &self.owner, &mut pass.seat, errand);
         pass.near = done.answer.near;
         done
     }
@@ -191,7 +184,7 @@ impl<'c, K: Eq + Hash + Drop, V: Drop, S: Hashes<K>> CollectorMap<'c, K, V, S> {
             hash,
             key,
         };
-        let done = guard.caller.lends(&self.owner, &mut pass.seat, errand);
+        let done = lends(&guard.caller, &self.owner, &mut pass.seat, errand);
         let (told, gone, _) = done.parts();
         match told {
             Ok(answer) => Ok(if_removed(&answer, gone)),
@@ -217,9 +210,6 @@ impl<'c, K: Eq + Hash + Drop, V: Drop, S: Hashes<K>> CollectorMap<'c, K, V, S> {
             hasher: &self.hasher,
             machine: &mut machine,
         };
-        guard
-            .caller
-            .lends(&self.owner, &mut pass.seat, errand)
-            .answer
+        lends(&guard.caller, &self.owner, &mut pass.seat, errand).answer
     }
 }

@@ -4,7 +4,7 @@ use Rattle.map_tables.specs.declared.node.Node.TheVariants.{Pair}
 use Rattle.papaya_raw.specs.declared.machines.progress.Answer.{Answer}
 use Rattle.seize_words.specs.declared.fault.Fault.{Fault}
 use Rattle.threads_callers.specs.Given.ActsActs.{Insert}
-use Rattle.threads_callers.specs.Loans.{IsLentIf, names_of}
+use Rattle.threads_owners.specs.Loans.{IsLentIf, names_of}
 use Rattle.threads_callers.specs.Answers.{replaced_by}
 use Rattle.papaya_maps.specs.Calls.{IsIf}
 use Rattle.papaya_maps.proofs.Calls.{came_to_have_on, if_mapped, refused_on, replaced_gone, told_on, values}

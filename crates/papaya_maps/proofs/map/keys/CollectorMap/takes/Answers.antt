@@ -3,7 +3,7 @@ use Rattle.std.proofs.Common.{ap, refl, sym, subst, ◌∙◌}
 use Rattle.papaya_raw.specs.declared.machines.progress.Answer.{Answer}
 use Rattle.seize_words.specs.declared.fault.Fault.{Fault}
 use Rattle.threads_callers.specs.Given.ActsActs.{Remove}
-use Rattle.threads_callers.specs.Loans.{IsLentIf, names_of}
+use Rattle.threads_owners.specs.Loans.{IsLentIf, names_of}
 use Rattle.papaya_maps.proofs.Calls.{gave_up_on, if_mapped, refused_on, removed_gone, told_on}
 use Rattle.papaya_maps.proofs.Small.{small}
 use Rattle.papaya_raw.specs.CallPoints.{removing}

@@ -2,8 +2,8 @@ use Rattle.std.specs.Prelude.{ℕ, Option, Some, IfSome}
 use Rattle.std.proofs.Common.{subst, sym}
 use Rattle.threads_errands.specs.Given.CallKindsKinds.{PairIsVisible}
 use Rattle.threads_errands.specs.Given.ViewsLooks.{shown_in}
-use Rattle.threads_callers.specs.Loans.{IsLentIf}
-use Rattle.threads_callers.proofs.caller.lending.pair_if.Goals as goal
+use Rattle.threads_owners.specs.Loans.{IsLentIf}
+use Rattle.threads_owners.proofs.lending.pair_if.Goals as goal
 
 pub pair_on-requires : goal.pair_on-requires
 pair_on-requires g c = record {

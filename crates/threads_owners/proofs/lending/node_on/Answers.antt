@@ -3,7 +3,7 @@ use Rattle.seize_words.proofs.General.{some_there as what}
 use Rattle.threads_errands.proofs.Given.ViewsLaws.{seats_come}
 use Rattle.threads_errands.proofs.Given.StepsShown.{is_shown}
 use Rattle.threads_errands.specs.Given.ViewsLooks.{shown_in}
-use Rattle.threads_callers.proofs.caller.lending.node_on.Goals as goal
+use Rattle.threads_owners.proofs.lending.node_on.Goals as goal
 
 pub value_by-requires-clause-own : goal.value_by-requires-clause-own
 value_by-requires-clause-own g c = (c.requires.own, c.args.guard.now.own, c.requires.one)

@@ -1,10 +1,10 @@
 use Rattle.std.proofs.Common.{refl, sym, ◌∙◌}
 use Rattle.seize_callers.proofs.Keeping.{none_away}
 use Rattle.threads_callers.proofs.Passing.{back_rests}
-use Rattle.threads_callers.proofs.caller.MapCaller.lends.Goals as goal
+use Rattle.threads_owners.proofs.lending.lends.Goals as goal
 
 pub errand_with_two-requires-clause-own : goal.errand_with_two-requires-clause-own
-errand_with_two-requires-clause-own g c = (c.requires.own, c.args.self.now.own, c.requires.one)
+errand_with_two-requires-clause-own g c = (c.requires.own, c.args.guard.now.own, c.requires.one)
 
 pub errand_with_two-requires-clause-home : goal.errand_with_two-requires-clause-home
 errand_with_two-requires-clause-home g c = none_away c.args.pass.now.seat.away c.args.pass.now.home

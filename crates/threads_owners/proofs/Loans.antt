@@ -14,7 +14,7 @@ use Rattle.threads_errands.specs.Given.ViewsRule.{Holds, IsBy, KeepsFor, Leans, 
 use Rattle.threads_errands.specs.Given.ViewsDeclared.view.Map.{Map}
 use Rattle.threads_errands.specs.Given.ViewsDeclared.view.View.{View}
 use Rattle.threads_errands.specs.Given.ViewsDeclared.view.SeatWork.TheVariants.{Nothing}
-use Rattle.threads_callers.specs.Loans.{BorrowsMap, EndsThere, Names, RestoresMap, back_from, within}
+use Rattle.threads_owners.specs.Loans.{BorrowsMap, EndsThere, Names, RestoresMap, back_from, within}
 use Rattle.threads_callers.specs.Passing.{BeginsUnder, IsBack, LeansNoMore}
 
 module _ {K V S : Type 0} (same : K → K → Bool) (hash : S → K → ℕ) (fixed : Fixed) where

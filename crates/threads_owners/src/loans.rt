@@ -7,7 +7,7 @@ use threads_errands::View;
 pub struct Borrowing;
 
 impl<K, V, S> Lesson<Fixed, View<K, V, S>> for Borrowing {
-    ghost use Rattle.threads_callers.specs.Loans.{BorrowsMap};
+    ghost use Rattle.threads_owners.specs.Loans.{BorrowsMap};
 
     ghost to = { λ _. BorrowsMap };
 }
@@ -16,7 +16,7 @@ impl<K, V, S> Lesson<Fixed, View<K, V, S>> for Borrowing {
 pub struct Restoring;
 
 impl<K, V, S> Turn<Fixed, View<K, V, S>> for Restoring {
-    ghost use Rattle.threads_callers.specs.Loans.{RestoresMap};
+    ghost use Rattle.threads_owners.specs.Loans.{RestoresMap};
 
     ghost to = { λ _. RestoresMap };
 }

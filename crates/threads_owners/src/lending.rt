@@ -1,20 +1,19 @@
 //! A pass does something with the map of an owner, within the section of a guard: both are lent for that, and so are the pairs that the answer names.
 ghost use Rattle.std.specs.Prelude.{◌≡◌, ℕ, IsSome, Some, IfSome, option_map};
 ghost use Rattle.seize_seats.specs.Seats.Lendings.{IsValueBy};
-ghost use Rattle.threads_callers.specs.Loans.{AllEndThere, HasLent, IsLentIf, IsLentOn, IsSentOn, MayDoOn};
+ghost use Rattle.threads_owners.specs.Loans.{AllEndThere, HasLent, IsLentIf, IsLentOn, IsSentOn, MayDoOn};
 ghost use Rattle.threads_callers.specs.Passing.{IsBack};
 ghost use Rattle.threads_errands.specs.Given.CallKindsKinds.{PairIsVisible};
 ghost use Rattle.threads_errands.specs.Given.ViewsDeclared.view.SeatWork.TheVariants.{Nothing as NoWork};
 ghost use Rattle.threads_errands.specs.Given.ViewsLooks.{shown_in};
 ghost use Rattle.threads_errands.specs.Given.ViewsRule.{Holds};
 
-use crate::caller::MapCaller;
-use crate::caller::pass::{MapPassSeat, MapReturning, Resorting};
 use crate::loans::{Borrowing, Restoring};
 use crate::naming::Naming;
 use map_tables::{Hashes, Node};
 use seize_blocks::{Blocks, Errand, ErrandWithTwo, Seat};
 use seize_words::Link;
+use threads_callers::{MapCaller, MapPassSeat, MapReturning, Resorting};
 use threads_errands::{OfMaps, endings_go_on, leanings_begin};
 
 /// What was done with a map: the answer, and the pairs that it names, which are lent for as long as the guard and the owner of the map are.
@@ -97,15 +96,22 @@ fn pair_if<'g, 'a, K: Eq, V, S: Hashes<K>>(
     Some(pair_on(seat, guard, owner, word))
 }
 
-impl<'g, 'a, K: Eq, V, S: Hashes<K>, A: Naming, E: Errand<Node<K, V>, OfMaps<S>, Answer = A>>
-    ErrandWithTwo<Node<K, V>, OfMaps<S>> for OnLoan<'g, 'a, K, V, S, E> {
+impl<
+    'g,
+    'a,
+    K: Eq,
+    V,
+    S: Hashes<K>,
+    A: Naming,
+    E: Errand<Node<K, V>, OfMaps<S>, Answer = A>,
+> ErrandWithTwo<Node<K, V>, OfMaps<S>> for OnLoan<'g, 'a, K, V, S, E> {
     type Answer = Done<'g, 'a, K, V, S, A>;
 
     ghost asks = { λ f name fixed n u k o v. IsSentOn (λ x answer y. E.did f.errand fixed x answer y) A.names (λ x. E.asks f.errand fixed x) f.guard.now f.owner.now name n k v };
 
     ghost did = { λ f fixed v done w. IsBack w
         × HasLent K.eq S.hash f.guard.now f.owner.now (λ x answer y. E.did f.errand fixed x answer y) A.names done.answer
-            (option_map (λ pair. (pair.0.now, pair.1.now)) done.gone) (option_map (λ pair. (pair.0.now, pair.1.now)) done.there) v w };
+        (option_map (λ pair. (pair.0.now, pair.1.now)) done.gone) (option_map (λ pair. (pair.0.now, pair.1.now)) done.there) v w };
 
     fn run(
         self,
@@ -136,34 +142,40 @@ impl<'g, 'a, K: Eq, V, S: Hashes<K>, A: Naming, E: Errand<Node<K, V>, OfMaps<S>,
     }
 }
 
-impl<'a, K: Eq, V, S: Hashes<K>> MapCaller<'a, K, V, S> {
-    /// Sends a pass on this errand, within its section, with the map that the owner has as its own. What the answer names is lent for as long as both are borrowed, whatever the
-    /// pass does then.
-    pub fn lends<'g, A: Naming, E: Errand<Node<K, V>, OfMaps<S>, Answer = A>>(
-        &'g self,
-        owner: &'g MapCaller<'a, K, V, S>,
-        pass: &mut MapPassSeat<K, V, S>,
-        errand: E,
-    ) -> Done<'g, 'a, K, V, S, A>
-        requires own { pass.old.seat.base ≡ self.now.blocks.now.words.id.views_name }
-        requires one { owner.now.seat.base ≡ self.now.blocks.now.words.id.views_name }
-        requires may { MayDoOn (λ x. E.asks errand self.now.blocks.now.words.fixed x) self.now owner.now pass.old.seat.view }
-        requires ends { AllEndThere (λ x answer y. E.did errand self.now.blocks.now.words.fixed x answer y) A.names }
-        ensures own { pass.new.seat.base ≡ pass.old.seat.base }
-        ensures lent { HasLent K.eq S.hash self.now owner.now (λ x answer y. E.did errand self.now.blocks.now.words.fixed x answer y) A.names result.answer
-            (option_map (λ pair. (pair.0.now, pair.1.now)) result.gone) (option_map (λ pair. (pair.0.now, pair.1.now)) result.there) pass.old.seat.view pass.new.seat.view }
-    {
-        self.blocks.errand_with_two(
-            &mut pass.seat,
-            &self.seat,
-            &owner.seat,
-            OnLoan {
-                guard: self,
-                owner,
-                errand,
-            },
-        )
-    }
+/// Sends a pass on this errand, within the section of the guard, with the map that the owner has as its own. What the answer names is lent for as long as both are borrowed, whatever the
+/// pass does then.
+pub fn lends<
+    'g,
+    'a,
+    K: Eq,
+    V,
+    S: Hashes<K>,
+    A: Naming,
+    E: Errand<Node<K, V>, OfMaps<S>, Answer = A>,
+>(
+    guard: &'g MapCaller<'a, K, V, S>,
+    owner: &'g MapCaller<'a, K, V, S>,
+    pass: &mut MapPassSeat<K, V, S>,
+    errand: E,
+) -> Done<'g, 'a, K, V, S, A>
+    requires own { pass.old.seat.base ≡ guard.now.blocks.now.words.id.views_name }
+    requires one { owner.now.seat.base ≡ guard.now.blocks.now.words.id.views_name }
+    requires may { MayDoOn (λ x. E.asks errand guard.now.blocks.now.words.fixed x) guard.now owner.now pass.old.seat.view }
+    requires ends { AllEndThere (λ x answer y. E.did errand guard.now.blocks.now.words.fixed x answer y) A.names }
+    ensures own { pass.new.seat.base ≡ pass.old.seat.base }
+    ensures lent { HasLent K.eq S.hash guard.now owner.now (λ x answer y. E.did errand guard.now.blocks.now.words.fixed x answer y) A.names result.answer
+        (option_map (λ pair. (pair.0.now, pair.1.now)) result.gone) (option_map (λ pair. (pair.0.now, pair.1.now)) result.there) pass.old.seat.view pass.new.seat.view }
+{
+    guard.blocks.errand_with_two(
+        &mut pass.seat,
+        &guard.seat,
+        &owner.seat,
+        OnLoan {
+            guard,
+            owner,
+            errand,
+        },
+    )
 }
 
 impl<'g, 'a, K: Eq, V, S: Hashes<K>, A> Done<'g, 'a, K, V, S, A> {

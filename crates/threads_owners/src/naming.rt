@@ -1,7 +1,6 @@
 //! Which pairs the answers of errands name: one that the map has no longer, and one that it has.
 ghost use Rattle.std.specs.Prelude.{◌≡◌, None};
-ghost use Rattle.seize_words.specs.declared.fault.Fault.{Fault as AFault};
-ghost use Rattle.threads_callers.specs.Loans.{Names, names_in, names_of};
+ghost use Rattle.threads_owners.specs.Loans.{names_in, names_of};
 
 use papaya_raw::machines::{Answer, KeyAnswer};
 use seize_words::Fault;
@@ -9,7 +8,7 @@ use threads_errands::Ran;
 
 /// What an errand answers that may name pairs.
 pub trait Naming {
-    ghost use Rattle.threads_callers.specs.Loans.{Names};
+    ghost use Rattle.threads_owners.specs.Loans.{Names};
 
     ghost names: { Self → Names };
 
