@@ -60,7 +60,8 @@ impl<'c, K: Eq + Hash + Drop, V: Drop, S: Hashes<K>> CollectorMap<'c, K, V, S> {
         let hash = key.hash_by(&self.hasher);
         let lookup = Lookup::new(self.setting.root, self.setting.mode, hash);
         let errand = Finds { rt, key, lookup };
-        lends(&guard.caller, &self.owner, &mut pass.seat, errand).there
+        let done = lends(&guard.caller, &self.owner, &mut pass.seat, errand);
+        done.parts().2
     }
 
     /// Stores a pair, of which it is said what becomes of it where its key is there.
@@ -210,6 +211,7 @@ impl<'c, K: Eq + Hash + Drop, V: Drop, S: Hashes<K>> CollectorMap<'c, K, V, S> {
             hasher: &self.hasher,
             machine: &mut machine,
         };
-        lends(&guard.caller, &self.owner, &mut pass.seat, errand).answer
+        let done = lends(&guard.caller, &self.owner, &mut pass.seat, errand);
+        done.parts().0
     }
 }

@@ -1,14 +1,15 @@
 use Rattle.std.specs.Prelude.{Some}
-use Rattle.std.proofs.Common.{ap, refl, sym, ◌∙◌}
+use Rattle.std.proofs.Common.{ℕ, ap, refl, subst, sym, ◌∙◌}
 use Rattle.papaya_maps.proofs.Calls.{counted_on}
+use Rattle.papaya_maps.specs.Calls.{MapCountedOn}
 use Rattle.papaya_maps.proofs.Ends.{counts_end}
 use Rattle.papaya_maps.proofs.May.{alone_in, count_too, its_bits, its_known, may_on, on_both}
 use Rattle.papaya_maps.proofs.Small.{small}
 use Rattle.threads_calls.proofs.Whole.{may_count}
 use Rattle.papaya_maps.proofs.map.keys.CollectorMap.counts.Goals as goal
 
-pub lends-requires : goal.lends-requires
-lends-requires g c =
+pub lends-done-requires : goal.lends-done-requires
+lends-done-requires g c =
     let m = c.args.self.now in let k = c.args.guard.now in let v = c.args.pass.now.seat.seat.view in
     let x = on_both k.caller m.owner m.setting m.hasher k.slot m.owns k.inside v in record {
       own = c.requires.pass ∙ sym c.requires.guard ∙ k.caller.own;
@@ -23,6 +24,6 @@ lends-requires g c =
 
 pub returns-clause-counted : goal.returns-clause-counted
 returns-clause-counted g c =
-    let m = c.args.self.now in let k = c.args.guard.now in
-    counted_on g.K.PartialEq.eq g.S.Hashes.hash k.caller m.owner (small k.caller.blocks.now.words.fixed.batch_size k.small) c.args.pass.now.seat.seat.view c.lends.new.pass.seat.view c.lends.result.answer
-    c.lends.ensures.lent.on
+    let m = c.args.self.now in let k = c.args.guard.now in let d = c.lends-done.result in let v = c.args.pass.now.seat.seat.view in let w = c.lends-done.new.pass.seat.view in
+    subst (λ (n : ℕ). MapCountedOn g.K.PartialEq.eq g.S.Hashes.hash k.caller m.owner n v w) (ap (λ p. p.0) (sym c.parts.ensures))
+    (counted_on g.K.PartialEq.eq g.S.Hashes.hash k.caller m.owner (small k.caller.blocks.now.words.fixed.batch_size k.small) v w d.answer c.lends-done.ensures.lent.on)
