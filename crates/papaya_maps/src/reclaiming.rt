@@ -1,4 +1,7 @@
 //! The end of all that waits in a collector that maps shared, while none of them is there.
+ghost use Rattle.std.specs.Prelude.{◌≡◌};
+ghost use Rattle.threads_reclaims.specs.Reclaims.Promises.{IsReclaimed};
+
 use crate::collector::SharedCollector;
 use core::mem::replace_with;
 use map_tables::Hashes;
@@ -10,7 +13,11 @@ use threads_reclaims::reclaim_all;
 fn reclaimed<K: Eq + Hash + Drop, V: Drop, S: Hashes<K>>(
     shared: SharedCollector<K, V, S>,
     (): (),
-) -> (SharedCollector<K, V, S>, ()) {
+) -> (SharedCollector<K, V, S>, ())
+    ensures collector { result.0.collector ≡ shared.collector }
+    ensures fixed { result.0.home.blocks.words.fixed ≡ shared.home.blocks.words.fixed }
+    ensures empty { IsReclaimed K.eq S.hash result.0.home.blocks.words.fixed result.0.home.blocks.words.start }
+{
     let SharedCollector {
         collector,
         home,
@@ -34,7 +41,11 @@ fn reclaimed<K: Eq + Hash + Drop, V: Drop, S: Hashes<K>>(
 impl<K: Eq + Hash + Drop, V: Drop, S: Hashes<K>> SharedCollector<K, V, S> {
     /// Reclaims all that waits in the collector: its maps have ended, and its guards, or were forgotten. Each pair that was removed or replaced, each table that was left, and what waits at
     /// the roots of maps that have ended is dropped, and these roots are free then. It is refused nothing.
-    pub fn reclaim_all(&mut self) {
+    pub fn reclaim_all(&mut self)
+        ensures collector { self.new.collector ≡ self.old.collector }
+        ensures fixed { self.new.home.blocks.words.fixed ≡ self.old.home.blocks.words.fixed }
+        ensures empty { IsReclaimed K.eq S.hash self.new.home.blocks.words.fixed self.new.home.blocks.words.start }
+    {
         replace_with(self, (), reclaimed)
     }
 }

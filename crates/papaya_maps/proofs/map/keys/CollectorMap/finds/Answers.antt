@@ -1,5 +1,5 @@
 use Rattle.std.specs.Prelude.{Some, option_map}
-use Rattle.std.proofs.Common.{ℕ, ap, refl, sym, ◌∙◌}
+use Rattle.std.proofs.Common.{ap, refl, subst, sym, ◌∙◌}
 use Rattle.map_machines.specs.Lookup.{looking}
 use Rattle.threads_calls.proofs.Sessions.{may_look}
 use Rattle.papaya_maps.proofs.Calls.{had_on}
