@@ -1,5 +1,5 @@
 -- Which collector something is of.
-use Rattle.std.specs.Prelude.{◌≡◌, ◌≢◌, ◌⊎◌, ℕ, Bool, true, false}
+use Rattle.std.specs.Prelude.{◌≡◌, ◌≢◌, ◌⊎◌, ℕ}
 use Rattle.seize_words.specs.declared.fault.Fault.{Fault}
 use Rattle.seize_words.specs.declared.fault.Fault.TheVariants.{ForeignGuard}
 
@@ -11,14 +11,9 @@ Source = ℕ × ℕ
 abbrev pub OneSource : Source → Source → Type 0
 OneSource a b = a.0 ≡ b.0 → a.1 ≡ b.1
 
--- the guard or the pass is of another collector than the map,
+-- the guard or the pass is of another collector than the map
 abbrev pub IsForeign : ℕ → ℕ → ℕ → Type 0
 IsForeign map guard pass = (guard ≢ map) ⊎ (pass ≢ map)
-
--- or both are of that one
-abbrev pub IsOneOf : ℕ → ℕ → ℕ → Bool → Type 0
-IsOneOf map guard pass true = (guard ≡ map) × (pass ≡ map)
-IsOneOf map guard pass false = IsForeign map guard pass
 
 -- A call was refused with this fault: as one of them is of another collector, and nothing has changed; or so.
 abbrev pub IsForeignOr : ℕ → ℕ → ℕ → Fault → Type 0 → Type 0 → Type 0

@@ -1,7 +1,7 @@
 //! Calls on a map that shares its collector: each is made by a pass, within the section of a guard, both of that collector.
 ghost use Rattle.std.specs.Prelude.{◌≡◌, Option, IfErr, IfOk, option_map};
 ghost use Rattle.papaya_maps.specs.Calls.{MapCameToHaveOn, MapCountedOn, MapGaveUpOn, MapHadOn, MapLackedOn, WasRefusedOn};
-ghost use Rattle.papaya_maps.specs.Sources.{IsForeign, IsForeignOr, IsOneOf, OneSource};
+ghost use Rattle.papaya_maps.specs.Sources.{IsForeign, IsForeignOr, OneSource};
 ghost use Rattle.seize_words.specs.declared.fault.Fault.TheVariants.{ForeignGuard};
 ghost use Rattle.threads_callers.specs.Answers.{CameBack, has_stored};
 ghost use Rattle.threads_callers.specs.Given.ActsActs.{Insert, Remove, TryToInsert};
@@ -16,11 +16,22 @@ use std::sync::Wait;
 use threads_callers::{Attempt, Form};
 
 impl<'c, K: Eq + Hash + Drop, V: Drop, S: Hashes<K>> CollectorMap<'c, K, V, S> {
-    /// Tells whether guard and pass are of the map's collector.
-    fn serves(&self, guard: &CollectorGuard<'c, K, V, S>, pass: &CollectorPass<K, V, S>) -> bool
-        ensures { IsOneOf self.now.number guard.now.number pass.now.number result }
+    /// Tells that guard and pass are of the map's collector: else one of them is foreign.
+    fn serves(
+        &self,
+        guard: &CollectorGuard<'c, K, V, S>,
+        pass: &CollectorPass<K, V, S>,
+    ) -> Result<(), Fault>
+        ensures own { IfOk result (λ _. (guard.now.number ≡ self.now.number) × (pass.now.number ≡ self.now.number)) }
+        ensures foreign { IfErr result (λ fault. (fault ≡ ForeignGuard) × IsForeign self.now.number guard.now.number pass.now.number) }
     {
-        guard.number == self.number && pass.number == self.number
+        if guard.number != self.number {
+            return Err(Fault::ForeignGuard);
+        }
+        if pass.number != self.number {
+            return Err(Fault::ForeignGuard);
+        }
+        Ok(())
     }
 
     /// Returns what a call under this guard works with.
@@ -48,9 +59,7 @@ impl<'c, K: Eq + Hash + Drop, V: Drop, S: Hashes<K>> CollectorMap<'c, K, V, S> {
         ensures foreign { IfErr result (λ fault. (fault ≡ ForeignGuard) × IsForeign self.now.number guard.now.number pass.old.number × (pass.new ≡ pass.old)) }
         ensures had { IfOk result (λ found. MapHadOn K.eq S.hash guard.now.caller self.now.owner (Q.stands_for key.now) (option_map (λ pair. (pair.0.now, pair.1.now)) found) pass.old.seat.seat.view pass.new.seat.seat.view) }
     {
-        if !self.serves(guard, pass) {
-            return Err(Fault::ForeignGuard);
-        }
+        self.serves(guard, pass)?;
         Ok(self.finds(rt, key, guard, pass))
     }
 
@@ -89,11 +98,10 @@ impl<'c, K: Eq + Hash + Drop, V: Drop, S: Hashes<K>> CollectorMap<'c, K, V, S> {
         ensures refused { IfErr result (λ r. IsForeignOr self.now.number guard.now.number pass.old.number r.fault (pass.new ≡ pass.old) (WasRefusedOn K.eq S.hash guard.now.caller self.now.owner (Insert key value) r.fault pass.old.seat.seat.view pass.new.seat.seat.view)) }
         ensures back { IfErr result (λ r. (r.key ≡ key) × (r.value ≡ value)) }
     {
-        if !self.serves(guard, pass) {
-            let fault = Fault::ForeignGuard;
-            return Err(Refused { fault, key, value });
+        match self.serves(guard, pass) {
+            Ok(()) => self.puts(rt, key, value, guard, pass),
+            Err(fault) => Err(Refused { fault, key, value }),
         }
-        self.puts(rt, key, value, guard, pass)
     }
 
     /// Stores a pair, if the map has none of an equal key: else it comes back. The value of the pair that is there then is lent. The faults are those of `insert`.
@@ -113,11 +121,10 @@ impl<'c, K: Eq + Hash + Drop, V: Drop, S: Hashes<K>> CollectorMap<'c, K, V, S> {
         ensures refused { IfErr result (λ r. IsForeignOr self.now.number guard.now.number pass.old.number r.fault (pass.new ≡ pass.old) (WasRefusedOn K.eq S.hash guard.now.caller self.now.owner (TryToInsert key value) r.fault pass.old.seat.seat.view pass.new.seat.seat.view)) }
         ensures back { IfErr result (λ r. (r.key ≡ key) × (r.value ≡ value)) }
     {
-        if !self.serves(guard, pass) {
-            let fault = Fault::ForeignGuard;
-            return Err(Refused { fault, key, value });
+        match self.serves(guard, pass) {
+            Ok(()) => self.tries(rt, key, value, guard, pass),
+            Err(fault) => Err(Refused { fault, key, value }),
         }
-        self.tries(rt, key, value, guard, pass)
     }
 
     /// Removes the pair of a key, and lends it, if there was one. It is dropped once no section that was open before holds it. The faults are `Fault::ForeignGuard`,
@@ -135,9 +142,7 @@ impl<'c, K: Eq + Hash + Drop, V: Drop, S: Hashes<K>> CollectorMap<'c, K, V, S> {
         ensures removed { IfOk result (λ taken. MapGaveUpOn K.eq S.hash guard.now.caller self.now.owner (Q.stands_for key.now) (option_map (λ pair. (pair.0.now, pair.1.now)) taken) pass.old.seat.seat.view pass.new.seat.seat.view) }
         ensures refused { IfErr result (λ fault. IsForeignOr self.now.number guard.now.number pass.old.number fault (pass.new ≡ pass.old) (WasRefusedOn K.eq S.hash guard.now.caller self.now.owner (Remove (Q.stands_for key.now)) fault pass.old.seat.seat.view pass.new.seat.seat.view)) }
     {
-        if !self.serves(guard, pass) {
-            return Err(Fault::ForeignGuard);
-        }
+        self.serves(guard, pass)?;
         self.takes(rt, key, guard, pass)
     }
 
@@ -171,9 +176,7 @@ impl<'c, K: Eq + Hash + Drop, V: Drop, S: Hashes<K>> CollectorMap<'c, K, V, S> {
         ensures foreign { IfErr result (λ fault. (fault ≡ ForeignGuard) × IsForeign self.now.number guard.now.number pass.old.number × (pass.new ≡ pass.old)) }
         ensures counted { IfOk result (λ count. MapCountedOn K.eq S.hash guard.now.caller self.now.owner count pass.old.seat.seat.view pass.new.seat.seat.view) }
     {
-        if !self.serves(guard, pass) {
-            return Err(Fault::ForeignGuard);
-        }
+        self.serves(guard, pass)?;
         Ok(self.counts(guard, pass))
     }
 }
