@@ -40,7 +40,7 @@ fn reclaimed<K: Eq + Hash + Drop, V: Drop, S: Hashes<K>>(
 
 impl<K: Eq + Hash + Drop, V: Drop, S: Hashes<K>> SharedCollector<K, V, S> {
     /// Reclaims all that waits in the collector: its maps have ended, and its guards, or were forgotten. Each pair that was removed or replaced, each table that was left, and what waits at
-    /// the roots of maps that have ended is dropped, and these roots are free then. It is refused nothing.
+    /// the roots of maps that have ended is dropped, and these roots are free then. A pass that was made before serves no call after it. It is refused nothing.
     pub fn reclaim_all(&mut self)
         ensures collector { self.new.collector ≡ self.old.collector }
         ensures fixed { self.new.home.blocks.words.fixed ≡ self.old.home.blocks.words.fixed }
