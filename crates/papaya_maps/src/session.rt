@@ -123,8 +123,10 @@ impl<'m, 'c, K: Eq + Hash + Drop, V: Drop, S: Hashes<K>> CollectorSession<'m, 'c
             × IfOk result (λ taken. (pair : Option (K × V)) × (option_map (λ value. value.now) taken ≡ option_map (λ p. p.1) pair) × MapGaveUpOn K.eq S.hash now.guard.caller now.map.now.owner (Q.stands_for key.now) pair self.old.pass.seat.seat.view now.pass.seat.seat.view)
             × IfErr result (λ fault. WasRefusedOn K.eq S.hash now.guard.caller now.map.now.owner (Remove (Q.stands_for key.now)) fault self.old.pass.seat.seat.view now.pass.seat.seat.view))) }
     {
-        let taken = self.remove_entry(rt, key)?;
-        Ok(value_of(taken))
+        match self.map.takes(rt, key, &self.guard, &mut self.pass) {
+            Ok(taken) => Ok(value_of(taken)),
+            Err(fault) => Err(fault),
+        }
     }
 
     /// Returns how many pairs the map has, by its count.
