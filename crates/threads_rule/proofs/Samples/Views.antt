@@ -1,5 +1,6 @@
 -- What the first operation of a lookup tells its seat, on a map that has no table; and what the operation of a row does.
 mod Aside
+mod Ends
 mod Listed
 mod Owners
 use Rattle.std.specs.Prelude.{ℕ, ◌==◌, Bool, List, [], ◌∷◌, Option, Some, None}

@@ -38,6 +38,7 @@ use Rattle.threads_rule.specs.Views.Told.{told, observed_by}
 use Rattle.threads_rule.specs.declared.view.View.{View}
 use Rattle.threads_rule.specs.declared.view.SeatWork.{SeatWork}
 use Rattle.threads_rule.specs.declared.view.SeatWork.TheVariants.{Nothing}
+use Rattle.threads_rule.proofs.Views.Leaves.{no_table}
 use Rattle.threads_rule.proofs.Views.RowBegins.{row_just, nobody_else, begins_to}
 use Rattle.threads_rule.proofs.Views.RowFits.{scene, so, i, knows}
 use Rattle.threads_rule.proofs.Views.RowSteps.{alike, row_in, steps_to}

@@ -87,26 +87,29 @@ module _ {K V : Type 0} (b : ℕ) (m n : Mem (Node K V)) (c : EndMap) (end : End
   sees block next comes ((value, is, e), inl here) = subst ComesTo (sym e) (comes value here)
   sees block next comes (ends, inr (value, is, never)) = absurd never
 
-  or_sees : (x : Bool) (first other : Then (Node K V) (EndMap × Settled (Node K V))) → (MayLookAt b shown first → ⊥) → (Saw other → ComesTo end) → Saw (if x then first else other) → ComesTo end
-  or_sees true first other never so saw = absurd (never saw.1)
-  or_sees false first other never so saw = so saw
+  -- one of two ways does, and the other one looks at nothing
+  or_sees : (x : Bool) (first : Then (Node K V) (EndMap × Settled (Node K V))) (block : ℕ) (next : Node K V → EndMap × Settled (Node K V)) → (MayLookAt b shown first → ⊥)
+      → ((value : Node K V) → b ≡ block → ComesTo (next value)) → Saw (if x then first else Seeing block (λ value. Now (next value))) → ComesTo end
+  or_sees true first block next never comes saw = absurd (never saw.1)
+  or_sees false first block next never comes saw = sees block next comes saw
 
-  sees_or : (x : Bool) (first other : Then (Node K V) (EndMap × Settled (Node K V))) → (Saw first → ComesTo end) → (MayLookAt b shown other → ⊥) → Saw (if x then first else other) → ComesTo end
-  sees_or true first other so never saw = so saw
-  sees_or false first other so never saw = absurd (never saw.1)
+  sees_or : (x : Bool) (other : Then (Node K V) (EndMap × Settled (Node K V))) (block : ℕ) (next : Node K V → EndMap × Settled (Node K V)) → (MayLookAt b shown other → ⊥)
+      → ((value : Node K V) → b ≡ block → ComesTo (next value)) → Saw (if x then Seeing block (λ value. Now (next value)) else other) → ComesTo end
+  sees_or true other block next never comes saw = sees block next comes saw
+  sees_or false other block next never comes saw = absurd (never saw.1)
 
   by_point : (p : Ending) → HasSeen b m (plan_at c p) n end → ComesTo end
   by_point at.Reads saw =
       let l = loads b m n (Root c.setting.root) end (end_map.root_read c) saw in
-      or_sees (l.0 == 0) _ _ none
-      (sees (block_in l.0) (λ value. (record c { root = table_seen l.0 value; table = table_seen l.0 value; stands = at.Words }, settled.Goes)) (λ value e. e ∙ ap block_in (sym (link_seen l.0 value)))) l.3
+      or_sees (l.0 == 0) _ (block_in l.0) (λ value. (record c { root = table_seen l.0 value; table = table_seen l.0 value; stands = at.Words }, settled.Goes)) none
+      (λ value e. e ∙ ap block_in (sym (link_seen l.0 value))) l.3
   by_point at.Words saw =
       let l = loads b m n (Word (block_in c.table.link) ((c.place + PLACES) % 2 ^ 64)) end (end_map.word_read c) saw in absurd (none_if b shown (end_map.is_current c l.0) _ _ none none l.3.1)
   by_point (at.Takes pair) saw = let t = takes b m n end (end_map.given_back c (end_map.next_place c)) (block_in pair) saw in absurd t.1.1
   by_point at.Nexts saw =
       let l = loads b m n (Word (block_in c.table.link) NEXT) end (end_map.next_read c) saw in
-      sees_or (not (l.0 == 0) && is_incremental c.setting.mode) _ _
-      (sees (block_in l.0) (λ value. (record c { table = table_seen l.0 value; place = 0; stands = at.Words }, settled.Goes)) (λ value e. e ∙ ap block_in (sym (link_seen l.0 value)))) none l.3
+      sees_or (not (l.0 == 0) && is_incremental c.setting.mode) _ (block_in l.0) (λ value. (record c { table = table_seen l.0 value; place = 0; stands = at.Words }, settled.Goes)) none
+      (λ value e. e ∙ ap block_in (sym (link_seen l.0 value))) l.3
   by_point at.Carries saw =
       let l = loads b m n (Word (block_in c.table.link) DEFERRED) end (end_map.list_read c) saw in
       absurd (none_if b shown (l.0 == 0) _ _ none (none_if b shown c.owns _ _ none (none_if b shown (c.first == 0) _ _ none none)) l.3.1)
@@ -119,8 +122,8 @@ module _ {K V : Type 0} (b : ℕ) (m n : Mem (Node K V)) (c : EndMap) (end : End
   by_point at.Afters saw = let l = loads b m n (Word (block_in c.table.link) NEXT) end (end_map.after_read c) saw in absurd l.3.1
   by_point (at.Drops next) saw =
       let t = takes b m n end (end_map.dropped c next) (block_in c.table.link) saw in
-      or_sees (next == 0) _ _ none
-      (sees (block_in next) (λ other. (record c { table = table_seen next other; stands = at.Carries }, settled.Gave t.0)) (λ value e. e ∙ ap block_in (sym (link_seen next value)))) t.1
+      or_sees (next == 0) _ (block_in next) (λ other. (record c { table = table_seen next other; stands = at.Carries }, settled.Gave t.0)) none
+      (λ value e. e ∙ ap block_in (sym (link_seen next value))) t.1
   by_point at.Shards saw = let t = takes b m n end (end_map.given_back c (end_map.standing c at.Sets)) c.setting.counter saw in absurd t.1.1
   by_point at.Sets saw = absurd (none_if b shown (c.first == 0) _ _ none none saw.3)
   by_point at.Frees saw = absurd saw.3
