@@ -75,5 +75,5 @@ module _ (same : ℕ → ℕ → Bool) (hash : ℕ → ℕ → ℕ) (fixed : Fix
       let gone = ap (λ (m : Mem (Node ℕ ℕ)). value_at m 4) (sym holds.so.memory) in cc (there, gone)
 
   -- and an end that has come to its table has not looked at its pair
-  looks_aside : (scene : Scene ℕ ℕ) → KnowsTable same hash scene (Ends at_table) ((3, Pair 5 7) ∷ []) → ⊥
+  looks_aside : (scene : Scene ℕ ℕ) → KnowsTable same hash scene (Ends record { machine = at_table; left = 0; along = 0 }) ((3, Pair 5 7) ∷ []) → ⊥
   looks_aside scene knows = let here = (knows 3 (Pair 5 7) refl).1 in omega (arith, here)
