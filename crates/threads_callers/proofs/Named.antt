@@ -15,11 +15,11 @@ some_mapped : {A B : Type 0} (f : A → B) (o : Option A) → is_some o ≡ is_s
 some_mapped f None = refl
 some_mapped f (Some x) = refl
 
-replaced_is : (answer : Answer) → is_some (replaced_by answer) ≡ is_replaced answer
+pub replaced_is : (answer : Answer) → is_some (replaced_by answer) ≡ is_replaced answer
 replaced_is (said.Key (answers.Replaced old new)) = refl
 replaced_is _ = refl
 
-removed_is : (answer : Answer) → is_some (removed_by answer) ≡ is_removed answer
+pub removed_is : (answer : Answer) → is_some (removed_by answer) ≡ is_removed answer
 removed_is (said.Key (answers.Removed word)) = refl
 removed_is _ = refl
 

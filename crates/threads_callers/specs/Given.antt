@@ -11,6 +11,7 @@ pub use Rattle.threads_errands.specs.Given.Made
 pub use Rattle.threads_errands.specs.Given.OwnedOwned
 pub use Rattle.threads_errands.specs.Given.Steps
 pub use Rattle.threads_errands.specs.Given.StepsAsking
+pub use Rattle.threads_errands.specs.Given.StepsStoring
 pub use Rattle.threads_errands.specs.Given.ThreadsStepsDeclared
 pub use Rattle.threads_errands.specs.Given.ViewsBegun
 pub use Rattle.threads_errands.specs.Given.ViewsDeclared

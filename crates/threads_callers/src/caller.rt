@@ -14,15 +14,15 @@ mod sends;
 
 use crate::showing::newcomer;
 use map_tables::{Hashes, Node};
-pub use pass::MapPassSeat;
+pub use pass::{MapPassSeat, MapReturning, Resorting};
 use seize_blocks::{Blocks, Seat};
 use threads_errands::{OfMaps, Sleepers};
 
 /// One of those who share the memory of maps: a seat of it, which is on no errand, with the memory, and with those who sleep until another one has taken a step.
 pub struct MapCaller<'a, K: Eq, V, S: Hashes<K>> {
-    blocks: &'a Blocks<Node<K, V>, OfMaps<S>>,
-    sleepers: &'a Sleepers,
-    seat: Seat<Node<K, V>, OfMaps<S>>,
+    pub blocks: &'a Blocks<Node<K, V>, OfMaps<S>>,
+    pub sleepers: &'a Sleepers,
+    pub seat: Seat<Node<K, V>, OfMaps<S>>,
     near: u64,
     ghost own: { seat.base ≡ blocks.now.words.id.views_name },
     ghost home: { is_home seat.away ≡ true },

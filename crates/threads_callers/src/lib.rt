@@ -7,7 +7,7 @@ mod form;
 mod showing;
 
 pub use answers::{Attempt, Found, came_of, is_put, refused, removed, replaced, there, told_of};
-pub use caller::{MapCaller, MapPassSeat};
+pub use caller::{MapCaller, MapPassSeat, MapReturning, Resorting};
 pub use form::Form;
 pub use showing::newcomer;
 pub use threads_errands::{Halt, OfMaps, Ran, Sleepers, Waiter, Within, memory_for};

@@ -1,5 +1,5 @@
 pub mod Sessions
-mod Keys
-mod Whole
+pub mod Keys
+pub mod Whole
 mod Asks
 pub mod Given

@@ -8,6 +8,6 @@ mod waiting;
 mod within;
 
 pub use finding::{goes_on, sees};
-pub use threads_rule::{OfMaps, View, leanings_begin};
+pub use threads_rule::{OfMaps, View, endings_go_on, leanings_begin};
 pub use waiting::{Sleepers, Waiter};
 pub use within::{Halt, Ran, Within, ended};

@@ -41,7 +41,7 @@ impl<K, V, S> Turn<Fixed, View<K, V, S>> for MapReturning {
 
 /// A seat that looks keys up under one that is within its section, and that is lent for that: any number of passes may do so at a time. Between two calls it rests.
 pub struct MapPassSeat<K: Eq, V, S: Hashes<K>> {
-    seat: Seat<Node<K, V>, OfMaps<S>>,
+    pub seat: Seat<Node<K, V>, OfMaps<S>>,
     ghost back: { IsBack seat.view },
     ghost home: { is_home seat.away ≡ true },
 }

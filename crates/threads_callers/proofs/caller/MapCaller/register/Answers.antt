@@ -15,7 +15,7 @@ pub errand-requires-clause-ends : goal.errand-requires-clause-ends
 errand-requires-clause-ends g c = λ answer w did. registered (notes_of w).knows answer did.0
 
 pub returns-clause-taken : goal.returns-clause-taken
-returns-clause-taken g c = (took c.errand.new.seat.view c.errand.result c.in_ok-slot.slot c.in_ok-slot.was c.errand.ensures.did.0).2.0
+returns-clause-taken g c = (took c.errand.new.seat.view c.errand.result c.in_ok-slot.slot c.in_ok-slot.was c.errand.ensures.did.0).2
 
 pub returns-clause-free : goal.returns-clause-free
 returns-clause-free g c = (took c.errand.new.seat.view c.errand.result c.in_ok-slot.slot c.in_ok-slot.was c.errand.ensures.did.0).1

@@ -1,0 +1,5 @@
+mod Calls
+mod Ends
+mod May
+mod Small
+mod Storing

@@ -1,0 +1,2 @@
+mod Loans
+mod Owning
