@@ -130,8 +130,11 @@ module _ {K V : Type 0} (same : K → K → Bool) (batch_size : ℕ) (w : World 
     lower p q point2 places less =
         let few = are_few same batch_size w2 i g facts2 q point2 in
         lower_in_one f.chart.past _ _ _ _ _ _ _ _ few.0 few.1 few.2
-        (inr (refl, lower_by (stage q) (tables_ahead f.chart.past e q) (steps_left w2.memory e q) (places_ahead e q) (stage p) (tables_ahead f.chart.past f.machine p) (steps_left w.memory f.machine p)
-        (places_ahead f.machine p) places less))
+        (inr (
+          refl,
+          lower_by (stage q) (tables_ahead f.chart.past e q) (steps_left w2.memory e q) (places_ahead e q) (stage p) (tables_ahead f.chart.past f.machine p) (steps_left w.memory f.machine p)
+              (places_ahead f.machine p) places less,
+        ))
 
     -- at the places of a table
     places_less : (q : Ending) → stage q ≡ 7 → steps_left w2.memory e q < places_ahead f.machine at.Words → places_ahead e q < places_ahead f.machine at.Words
