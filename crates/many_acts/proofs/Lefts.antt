@@ -43,6 +43,17 @@ behind_is x (y ∷ before) rest once = elim (cases_eq y x) as (λ _. behind x (y
     fewer : (z v : ℕ) (l : List ℕ) → times z (v ∷ l) ≤ 1 → times z l ≤ 1
     fewer z v l few = grind (arith, few)
 
+-- Of three numbers the first is lower, or the next one.
+abbrev IsLower : ℕ → ℕ → ℕ → ℕ → ℕ → ℕ → Type 0
+IsLower s2 t2 p2 s t p = (s2 < s) ⊎ ((s2 ≡ s) × ((t2 < t) ⊎ ((t2 ≡ t) × ((p2 < p) ⊎ ((p2 ≡ p) × ⊥)))))
+
+-- so it is with another last one
+lower_by : (s2 t2 p2 o2 s t p o : ℕ) → (s2 ≡ s → p2 < p → o2 < o) → IsLower s2 t2 p2 s t p → IsLower s2 t2 o2 s t o
+lower_by s2 t2 p2 o2 s t p o last (inl l) = inl l
+lower_by s2 t2 p2 o2 s t p o last (inr (same_first, inl l)) = inr (same_first, inl l)
+lower_by s2 t2 p2 o2 s t p o last (inr (same_first, inr (same_next, inl l))) = inr (same_first, inr (same_next, inl (last same_first l)))
+lower_by s2 t2 p2 o2 s t p o last (inr (same_first, inr (same_next, inr (same_last, none)))) = absurd none
+
 module _ {K V : Type 0} (same : K → K → Bool) (batch_size : ℕ) (w : World (Node K V)) (i : ℕ) (f : Finishing K V) (facts : FinishingFacts same batch_size w i f) where
   abbrev Point : Ending → Type 0
   Point spot = EndingFacts f.setting f.chart f.blocks facts.lists false i f.hash w f.machine facts.past f.back spot
@@ -111,27 +122,19 @@ module _ {K V : Type 0} (same : K → K → Bool) (batch_size : ℕ) (w : World 
 
     -- what is ahead is less
     abbrev IsLess : Ending → Ending → Type 0
-    IsLess p q =
-        (stage q < stage p) ⊎ ((stage q ≡ stage p) × ((tables_ahead f.chart.past e q < tables_ahead f.chart.past f.machine p) ⊎ ((tables_ahead f.chart.past e q ≡ tables_ahead f.chart.past f.machine p)
-        × ((steps_left w2.memory e q < steps_left w.memory f.machine p) ⊎ ((steps_left w2.memory e q ≡ steps_left w.memory f.machine p) × ⊥)))))
+    IsLess p q = IsLower (stage q) (tables_ahead f.chart.past e q) (steps_left w2.memory e q) (stage p) (tables_ahead f.chart.past f.machine p) (steps_left w.memory f.machine p)
 
     -- and so is what is left in all, if its places are
     lower : (p q : Ending) → Point same batch_size w2 i g facts2 q
         → (stage q ≡ stage p → steps_left w2.memory e q < steps_left w.memory f.machine p → places_ahead e q < places_ahead f.machine p) → IsLess p q → left_at g q < left_at f p
     lower p q point2 places less =
         let few = are_few same batch_size w2 i g facts2 q point2 in
-        lower_in_one f.chart.past _ _ _ _ _ _ _ _ few.0 few.1 few.2 (inr (refl, less_so less))
-      where
-        abbrev IsLessSo : Type 0
-        IsLessSo =
-            (stage q < stage p) ⊎ ((stage q ≡ stage p) × ((tables_ahead f.chart.past e q < tables_ahead f.chart.past f.machine p) ⊎ ((tables_ahead f.chart.past e q ≡ tables_ahead f.chart.past f.machine p)
-            × ((places_ahead e q < places_ahead f.machine p) ⊎ ((places_ahead e q ≡ places_ahead f.machine p) × ⊥)))))
-
-        less_so : IsLess p q → IsLessSo
-        less_so (inl l) = inl l
-        less_so (inr (same_stage, inl l)) = inr (same_stage, inl l)
-        less_so (inr (same_stage, inr (same_tables, inl l))) = inr (same_stage, inr (same_tables, inl (places same_stage l)))
-        less_so (inr (same_stage, inr (same_tables, inr (same_steps, none)))) = absurd none
+        lower_in_one f.chart.past _ _ _ _ _ _ _ _ few.0 few.1 few.2
+        (inr (
+          refl,
+          lower_by (stage q) (tables_ahead f.chart.past e q) (steps_left w2.memory e q) (places_ahead e q) (stage p) (tables_ahead f.chart.past f.machine p) (steps_left w.memory f.machine p)
+              (places_ahead f.machine p) places less,
+        ))
 
     -- at the places of a table
     places_less : (q : Ending) → stage q ≡ 7 → steps_left w2.memory e q < places_ahead f.machine at.Words → places_ahead e q < places_ahead f.machine at.Words

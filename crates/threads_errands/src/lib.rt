@@ -13,4 +13,6 @@ mod turns;
 
 pub use errands::{Counts, Does, Finds, Makes, MakesPair, Removes, RemovesIf, Stores};
 pub use memory::memory_for;
-pub use threads_steps::{Halt, OfMaps, Ran, Sleepers, View, Waiter, Within, endings_go_on, leanings_begin};
+pub use threads_steps::{
+    Halt, OfMaps, Ran, Sleepers, View, Waiter, Within, endings_go_on, leanings_begin,
+};

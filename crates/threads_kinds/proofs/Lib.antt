@@ -1,1 +1,2 @@
 pub mod CallKinds
+pub mod Makings

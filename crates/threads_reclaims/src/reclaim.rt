@@ -16,7 +16,7 @@ use threads_rule::OfMaps;
 
 /// Reclaims everything that waits: nobody else has the memory meanwhile. A slot that somebody has forgotten leaves, each batch is flushed, and then every slot is
 /// free. Values that are reclaimed are dropped. What was chosen is what was chosen as the memory was opened. It answers the memory, which begins another
-/// lifetime, in which nothing waits, and the seat, which knows the map that it knew.
+/// lifetime, in which nothing waits, and the seat, which knows the map that it knew, and its own one.
 pub fn reclaim_all<K: Eq + Drop, V: Drop, S: Hashes<K>>(
     home: Home<Node<K, V>, OfMaps<S>>,
     seat: Seat<Node<K, V>, OfMaps<S>>,

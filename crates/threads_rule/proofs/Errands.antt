@@ -3,7 +3,6 @@ pub mod Beginnings
 pub mod Machines
 mod Swept
 pub mod Looking
-pub mod Making
 pub mod Runs
 pub mod Stepping
 pub mod Telling

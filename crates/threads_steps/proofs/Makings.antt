@@ -22,10 +22,11 @@ use Rattle.threads_rule.specs.declared.view.SeatWork.{SeatWork}
 use Rattle.threads_rule.specs.declared.view.SeatWork.TheVariants.{Nothing}
 use Rattle.threads_rule.proofs.Views.Laws.{makings_go_on}
 use Rattle.threads_steps.specs.Made.{CanMake, HasMade, IsSameSeat, shown_of}
-use Rattle.threads_rule.specs.Errands.Making.{MakesMap, HasIt, MadeSo, HasComeSo, KnowsAlike, KnowsElse, KnowsStill, StaysChosen, GetsOn, chosen_of}
+use Rattle.threads_rule.specs.Errands.Making.{MakesMap, HasIt, MadeSo, HasComeSo, KnowsAlike, KnowsElse, KnowsStill}
+use Rattle.threads_kinds.specs.Makings.{StaysChosen, GetsOn, chosen_of}
 use Rattle.threads_steps.specs.declared.within.Within.{Within}
 use Rattle.threads_steps.proofs.Calls.{has_alone}
-use Rattle.threads_rule.proofs.Errands.Making.{GoesEarly, tells, is_do, leaves, is_now}
+use Rattle.threads_kinds.proofs.Makings.{GoesEarly, tells, is_do, leaves, is_now}
 use Rattle.threads_kinds.proofs.CallKinds.Plans.{may_by, was_made, follows_one, now_plain, now_follows, leaves_values}
 
 module _ {K V S : Type 0} (same : K → K → Bool) (hash : S → K → ℕ) (c : Within K V S) (own : Bool) (hasher : S) (opening : NewMap) (is : MakesMap own hasher opening c.seat.now.view) where

@@ -1,8 +1,7 @@
 //! A seat of maps on an errand, with the memory.
 ghost use Rattle.std.proofs.Props.{props};
-ghost use Rattle.std.specs.Prelude.{◌≡◌, ◌≢◌, None, Some, IsSome};
+ghost use Rattle.std.specs.Prelude.{◌≡◌, ◌≢◌, None};
 ghost use Rattle.seize_blocks.specs.Parts.{IsFound};
-ghost use Rattle.threads_steps.specs.Made.{looked_in};
 ghost use Rattle.threads_steps.specs.Found.{in_block_prop};
 
 mod asking;
@@ -55,14 +54,6 @@ impl<'a, K: Eq, V, S: Hashes<K>> Within<'a, K, V, S> {
             place: blocks.place(),
             made: false,
         }
-    }
-
-    /// Returns the value of a block at which the last step of the end of its map has looked.
-    pub fn looked(&self, block: u64) -> &Node<K, V>
-        requires { IsSome (looked_in self.now.seat.now.view.work self.now.seat.now.view.looks block) }
-        ensures { looked_in self.now.seat.now.view.work self.now.seat.now.view.looks block ≡ Some result.now }
-    {
-        self.blocks.value(&*self.seat, block)
     }
 
     /// Tells from where on it looks for the numbers of blocks next.

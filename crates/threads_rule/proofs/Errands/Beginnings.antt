@@ -27,8 +27,9 @@ use Rattle.threads_rule.specs.declared.view.SeatWork.TheVariants.{Nothing, Calls
 use Rattle.threads_rule.proofs.Views.Laws.{calls_are_asked, calls_are_told, calls_begin, makings_begin}
 use Rattle.threads_rule.specs.Errands.Calling.{IsUnderWay, MayDo, MayDoAs, Works, wanted_of}
 use Rattle.threads_kinds.specs.CallKinds.Kinds.{Kind, Stage}
+use Rattle.threads_kinds.specs.Makings.{IsEarly}
 use Rattle.threads_rule.specs.Errands.Looking.{Begins, IsOn, LooksFor, MayLook, StaysThere}
-use Rattle.threads_rule.specs.Errands.Making.{BeginsMaking, HasComeSo, IsEarly, IsThis, MakesMap, MayBegin, PlansJust}
+use Rattle.threads_rule.specs.Errands.Making.{BeginsMaking, HasComeSo, IsThis, MakesMap, MayBegin, PlansJust}
 use Rattle.seize_words.proofs.General.{same_some}
 
 module _ {K S : Type 0} (V : Type 0) (same : K → K → Bool) (hash : S → K → ℕ) where

@@ -235,7 +235,7 @@ module _ {K V S : Type 0} (same : K → K → Bool) (hash : S → K → ℕ) (fi
     HasLooked told = AllLooked scene_now.world.memory (end_map_plan {K = K} {V = V} machine) m2 (step_led.3, told) made.looks
 
     abbrev IsTable : Settled (Node K V) → Type 0
-    IsTable told = (b : ℕ) (x : Node K V) → shown_in made.looks b ≡ Some x → (value_at w2.memory b ≡ Some x) × ComesTo {K = K} {V = V} b (step_led.3, told)
+    IsTable told = (b : ℕ) (x : Node K V) → shown_in made.looks b ≡ Some x → (value_at w2.memory b ≡ Some x) × ComesTo b (step_led.3, told)
 
     looked_at : (told : Settled (Node K V)) → HasLooked told → IsTable told
     looked_at told seen b x shown =

@@ -1,6 +1,6 @@
 -- A map that one seat knows is handed on to another one.
 use Rattle.std.specs.Prelude.{◌≢◌, Option, Some, None, slice_get, slice_set}
-use Rattle.std.proofs.Common.{◌≡◌, ℕ, Bool, List, ◌⊎◌, inl, inr, refl, sym, subst, ap, ◌∙◌}
+use Rattle.std.proofs.Common.{◌≡◌, ℕ, Bool, List, [], ◌⊎◌, inl, inr, refl, sym, subst, ap, ◌∙◌}
 use Rattle.std.proofs.lemmas.Bool.{cases_eq}
 use Rattle.map_tables.specs.declared.node.Node.{Node}
 use Rattle.many_acts.specs.Given.ScenesScene.{Scene}

@@ -1,6 +1,6 @@
 -- A seat comes to lean on one that is within its section, and back.
 use Rattle.std.specs.Prelude.{◌≢◌, Option, Some, None, slice_get, slice_set}
-use Rattle.std.proofs.Common.{◌≡◌, ℕ, Bool, List, ◌⊎◌, inl, inr, refl, sym, subst, ap, ◌∙◌}
+use Rattle.std.proofs.Common.{◌≡◌, ℕ, Bool, List, [], ◌⊎◌, inl, inr, refl, sym, subst, ap, ◌∙◌}
 use Rattle.std.proofs.lemmas.Bool.{cases_eq}
 use Rattle.map_tables.specs.declared.node.Node.{Node}
 use Rattle.seize.specs.World.{Inside as WithinUse}

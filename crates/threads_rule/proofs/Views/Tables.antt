@@ -67,12 +67,12 @@ link_seen : {K V : Type 0} (link : ℕ) (value : Node K V) → (table_seen link 
 link_seen link (node.Table len limit turn) = refl
 link_seen link _ = refl
 
-module _ {K V : Type 0} (b : ℕ) (m n : Mem (Node K V)) (c : EndMap) (end : EndMap × Settled (Node K V)) where
-  -- it goes on, and has come to this table
-  abbrev pub ComesTo : EndMap × Settled (Node K V) → Type 0
-  ComesTo (e, settled.Done) = ⊥
-  ComesTo (e, told) = IsAtTable e e.stands b
+-- it goes on, and has come to this table
+abbrev pub ComesTo : {T : Type 0} → ℕ → EndMap × Settled T → Type 0
+ComesTo b (e, settled.Done) = ⊥
+ComesTo b (e, told) = IsAtTable e e.stands b
 
+module _ {K V : Type 0} (b : ℕ) (m n : Mem (Node K V)) (c : EndMap) (end : EndMap × Settled (Node K V)) where
   abbrev shown : ℕ → Option (Node K V)
   shown = value_at n
 
@@ -83,22 +83,22 @@ module _ {K V : Type 0} (b : ℕ) (m n : Mem (Node K V)) (c : EndMap) (end : End
   abbrev Saw : Then (Node K V) (EndMap × Settled (Node K V)) → Type 0
   Saw rest = Ends shown rest end × MayLookAt b shown rest
 
-  sees : (block : ℕ) (next : Node K V → EndMap × Settled (Node K V)) → ((value : Node K V) → b ≡ block → ComesTo (next value)) → Saw (Seeing block (λ value. Now (next value))) → ComesTo end
-  sees block next comes ((value, is, e), inl here) = subst ComesTo (sym e) (comes value here)
+  sees : (block : ℕ) (next : Node K V → EndMap × Settled (Node K V)) → ((value : Node K V) → b ≡ block → ComesTo b (next value)) → Saw (Seeing block (λ value. Now (next value))) → ComesTo b end
+  sees block next comes ((value, is, e), inl here) = subst (ComesTo b) (sym e) (comes value here)
   sees block next comes (ends, inr (value, is, never)) = absurd never
 
   -- one of two ways does, and the other one looks at nothing
   or_sees : (x : Bool) (first : Then (Node K V) (EndMap × Settled (Node K V))) (block : ℕ) (next : Node K V → EndMap × Settled (Node K V)) → (MayLookAt b shown first → ⊥)
-      → ((value : Node K V) → b ≡ block → ComesTo (next value)) → Saw (if x then first else Seeing block (λ value. Now (next value))) → ComesTo end
+      → ((value : Node K V) → b ≡ block → ComesTo b (next value)) → Saw (if x then first else Seeing block (λ value. Now (next value))) → ComesTo b end
   or_sees true first block next never comes saw = absurd (never saw.1)
   or_sees false first block next never comes saw = sees block next comes saw
 
   sees_or : (x : Bool) (other : Then (Node K V) (EndMap × Settled (Node K V))) (block : ℕ) (next : Node K V → EndMap × Settled (Node K V)) → (MayLookAt b shown other → ⊥)
-      → ((value : Node K V) → b ≡ block → ComesTo (next value)) → Saw (if x then Seeing block (λ value. Now (next value)) else other) → ComesTo end
+      → ((value : Node K V) → b ≡ block → ComesTo b (next value)) → Saw (if x then Seeing block (λ value. Now (next value)) else other) → ComesTo b end
   sees_or true other block next never comes saw = sees block next comes saw
   sees_or false other block next never comes saw = absurd (never saw.1)
 
-  by_point : (p : Ending) → HasSeen b m (plan_at c p) n end → ComesTo end
+  by_point : (p : Ending) → HasSeen b m (plan_at c p) n end → ComesTo b end
   by_point at.Reads saw =
       let l = loads b m n (Root c.setting.root) end (end_map.root_read c) saw in
       or_sees (l.0 == 0) _ (block_in l.0) (λ value. (record c { root = table_seen l.0 value; table = table_seen l.0 value; stands = at.Words }, settled.Goes)) none
@@ -130,7 +130,7 @@ module _ {K V : Type 0} (b : ℕ) (m n : Mem (Node K V)) (c : EndMap) (end : End
   by_point at.Over saw = absurd saw.2
 
   -- a step of an end has seen no block but the table to which it comes
-  end_sees : HasSeen b m (end_map_plan c) n end → ComesTo end
+  end_sees : HasSeen b m (end_map_plan c) n end → ComesTo b end
   end_sees saw = by_point c.stands saw
 
 module _ {K V : Type 0} (m n : Mem (Node K V)) (c e : EndMap) where
@@ -139,15 +139,16 @@ module _ {K V : Type 0} (m n : Mem (Node K V)) (c e : EndMap) where
 
   -- so what it has looked at is that one, with its value; and nothing, where the end is over
   pub looked_table : (told : Settled (Node K V)) (looks : List (ℕ × Node K V)) → HasLooked told looks → (b : ℕ) (x : Node K V) → shown_in looks b ≡ Some x
-      → (value_at n b ≡ Some x) × ComesTo {K = K} {V = V} b (e, told)
-  looked_table told [] seen b x none = absurd (cc none)
-  looked_table told (look ∷ looks) (saw, there, more) b x shown = by (b == look.0) refl shown
+      → (value_at n b ≡ Some x) × ComesTo b (e, told)
+  looked_table told [] seen b x is = absurd (cc is)
+  looked_table told (look ∷ looks) (saw, there, more) b x is = by (b == look.0) refl is (looked_table told looks more b x)
     where
-      by : (k : Bool) → (b == look.0) ≡ k → (if k then Some look.1 else shown_in looks b) ≡ Some x → (value_at n b ≡ Some x) × ComesTo {K = K} {V = V} b (e, told)
-      by false is f = looked_table told looks more b x f
-      by true is f =
-          let here = eqb-true b look.0 is in
-          (ap (value_at n) here ∙ there ∙ f, subst (λ (a : ℕ). ComesTo {K = K} {V = V} a (e, told)) (sym here) (end_sees look.0 m n c (e, told) saw))
+      by : (k : Bool) → (b == look.0) ≡ k → (if k then Some look.1 else shown_in looks b) ≡ Some x → (shown_in looks b ≡ Some x → (value_at n b ≡ Some x) × ComesTo b (e, told))
+          → (value_at n b ≡ Some x) × ComesTo b (e, told)
+      by false same f rest = rest f
+      by true same f rest =
+          let here = eqb-true b look.0 same in
+          (ap (value_at n) here ∙ there ∙ f, subst (λ (a : ℕ). ComesTo a (e, told)) (sym here) (end_sees look.0 m n c (e, told) saw))
 
   pub none_looked : (looks : List (ℕ × Node K V)) → HasLooked settled.Done looks → looks ≡ []
   none_looked [] seen = refl

@@ -1,5 +1,5 @@
 -- What a seat knows while it makes a map of no table, and once that is there.
-use Rattle.std.specs.Prelude.{true, false, ◌≡◌, ℕ, Bool, ◌+◌, ◌-◌, ◌^◌, ◌<◌, Some, None, Result, IfOk, IfErr}
+use Rattle.std.specs.Prelude.{true, false, ◌≡◌, ℕ, Bool, ◌+◌, ◌^◌, ◌<◌, Some, None, Result, IfOk, IfErr}
 use Rattle.std.specs.Int.{IsPowerOfTwo}
 use Rattle.seize_words.specs.declared.fault.Fault.{Fault}
 use Rattle.seize.specs.declared.advance.Advance.{Advance}
@@ -7,33 +7,12 @@ use Rattle.seize.specs.declared.advance.Advance.TheVariants as progress
 use Rattle.map_tables.specs.declared.setting.Setting.{Setting}
 use Rattle.map_machines.specs.NewMap.{opening}
 use Rattle.map_machines.specs.declared.new_map.NewMap.{NewMap}
-use Rattle.map_machines.specs.declared.new_map.Opening.{Opening}
-use Rattle.map_machines.specs.declared.new_map.Opening.TheVariants.{Takes, Shards, Frees}
 use Rattle.seize_views.specs.declared.view.Fixed.{Fixed}
+use Rattle.threads_kinds.specs.Makings.{IsEarly, chosen_of}
 use Rattle.threads_rule.specs.Views.Begun.{making}
 use Rattle.threads_rule.specs.Views.Rule.{side_of}
 use Rattle.threads_rule.specs.declared.view.View.{View}
 use Rattle.threads_rule.specs.declared.view.SeatWork.TheVariants.{Nothing, Makes}
-
--- it has a root to take, or shards to make, or gives its root up
-abbrev pub IsEarly : Opening → Type 0
-IsEarly Takes = Unit {0}
-IsEarly Shards = Unit {0}
-IsEarly (Frees fault) = Unit {0}
-IsEarly _ = ⊥
-
--- how many steps there are still at most, by the roots that are left
-abbrev pub left_at : Opening → ℕ → ℕ
-left_at Takes roots = roots + 3
-left_at Shards roots = 2
-left_at _ roots = 1
-
-abbrev pub left_of : NewMap → ℕ
-left_of c = left_at c.stands (c.roots - c.setting.root)
-
--- what was chosen of a setting: all but its root and its counter
-abbrev pub chosen_of : Setting → Setting
-chosen_of s = record s { root = 0; counter = 0 }
 
 -- a map of no table may be made so: by the size of batches and the roots of its memory
 pub record MayBegin (fixed : Fixed) (c : NewMap) : Type 0 where
@@ -121,13 +100,3 @@ module _ {K V S : Type 0} where
   abbrev pub KnowsStill : Bool → Advance Setting → View K V S → View K V S → Type 0
   KnowsStill own (progress.Done setting) v w = KnowsElse own v w
   KnowsStill own _ v w = KnowsAlike v w
-
--- what was chosen stays so
-abbrev pub StaysChosen : NewMap → NewMap → Advance Setting → Type 0
-StaysChosen c d (progress.Done setting) = chosen_of setting ≡ chosen_of c.setting
-StaysChosen c d _ = chosen_of d.setting ≡ chosen_of c.setting
-
--- fewer steps are left, where it goes on
-abbrev pub GetsOn : NewMap → NewMap → Advance Setting → Type 0
-GetsOn c d progress.Goes = left_of d < left_of c
-GetsOn c d _ = Unit {0}

@@ -1,7 +1,8 @@
 //! A seat on an errand makes a map of no table, for itself or for good.
 ghost use Rattle.std.specs.Prelude.{◌≡◌, Bool, None, true};
 ghost use Rattle.threads_steps.specs.Made.{IsSameSeat};
-ghost use Rattle.threads_rule.specs.Errands.Making.{BeginsMaking, HasComeSo, GetsOn, IsThis, KnowsStill, MadeSo, MakesMap, MayBegin, PlansJust, StaysChosen};
+ghost use Rattle.threads_rule.specs.Errands.Making.{BeginsMaking, HasComeSo, IsThis, KnowsStill, MadeSo, MakesMap, MayBegin, PlansJust};
+ghost use Rattle.threads_kinds.specs.Makings.{GetsOn, StaysChosen};
 ghost use Rattle.threads_rule.specs.Views.Rule.{side_of};
 ghost use Rattle.threads_rule.specs.declared.view.SeatWork.TheVariants.{Nothing as NoWork};
 ghost use Rattle.seize_views.specs.declared.view.SlotView.TheVariants.{Rests};

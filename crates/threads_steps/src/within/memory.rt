@@ -1,7 +1,20 @@
 //! A seat on an errand as the memory of the machine that it has under way.
+ghost use Rattle.std.specs.Prelude.{◌≡◌, IsSome, Some};
+ghost use Rattle.threads_steps.specs.Made.{looked_in};
+
 use crate::within::Within;
 use map_tables::{Hashes, Node};
 use seize_words::{At, Fault, Look, Memory};
+
+impl<'a, K: Eq, V, S: Hashes<K>> Within<'a, K, V, S> {
+    /// Returns the value of a block at which the last step of the end of its map has looked.
+    pub fn looked(&self, block: u64) -> &Node<K, V>
+        requires { IsSome (looked_in self.now.seat.now.view.work self.now.seat.now.view.looks block) }
+        ensures { looked_in self.now.seat.now.view.work self.now.seat.now.view.looks block ≡ Some result.now }
+    {
+        self.blocks.value(&*self.seat, block)
+    }
+}
 
 impl<'a, K: Eq, V, S: Hashes<K>> Look<Node<K, V>> for Within<'a, K, V, S> {
     ghost use Rattle.threads_steps.specs.Made.{CanMake, HasMade, shown_of};

@@ -1,7 +1,7 @@
 -- Wrong ends of maps: a step that takes a pair of another map, which a section holds, and a look at another block than its table. The rule holds of neither.
 use Rattle.std.specs.Prelude.{◌≢◌, ℕ, ◌+◌, Bool, [], ◌∷◌, Some, None}
 use Rattle.std.proofs.Common.{◌≡◌, refl, sym, ap, arith, ◌∙◌}
-use Rattle.seize_words.specs.OneMemory.Mem.{Mem, Took, value_at, fresh}
+use Rattle.seize_words.specs.OneMemory.Mem.{Mem, Took, value_at, fresh, with_block}
 use Rattle.seize_words.specs.OneMemory.Op.{Take, Taken}
 use Rattle.seize_words.specs.OneMemory.Plan.{Plan, Do, Steps}
 use Rattle.seize_words.specs.OneMemory.Word.{block_in}
@@ -44,8 +44,11 @@ machine = standing (ending (setting 0 1) false) (at.Takes 6144)
 abbrev takes_another : EndMap → ℕ → Plan (Node ℕ ℕ) (EndMap × Settled (Node ℕ ℕ))
 takes_another c pair = Do (Take (block_in pair + 1)) (given_back c (next_place c))
 
-taken : (m : Mem (Node ℕ ℕ)) × (end : EndMap × Settled (Node ℕ ℕ)) × Steps Took value_at memory (takes_another machine 6144) m end
-taken = (_, _, Taken (Pair 5 8), (refl, refl), refl)
+abbrev left : Mem (Node ℕ ℕ)
+left = with_block memory 4 None
+
+steps : (end : EndMap × Settled (Node ℕ ℕ)) × Steps Took value_at memory (takes_another machine 6144) left end
+steps = (_, Taken (Pair 5 8), (refl, refl), refl)
 
 -- or it has come to its table
 abbrev at_table : EndMap
@@ -69,11 +72,11 @@ reader = record {
 module _ (same : ℕ → ℕ → Bool) (hash : ℕ → ℕ → ℕ) (fixed : Fixed) where
   -- knows no more what is so: the end doesn't go on
   is_refused : (s : State (Node ℕ ℕ) (View ℕ ℕ ℕ) (MapsWorld ℕ ℕ ℕ)) (i j : ℕ) → j ≢ i → view_of s j ≡ Some reader → (So : View ℕ ℕ ℕ → Type 0)
-      → Goes (Holds same hash fixed) KeepsFor s taken.0 i So → ⊥
+      → Goes (Holds same hash fixed) KeepsFor s left i So → ⊥
   is_refused s i j apart at So (w, world, holds, kept, so) =
       let there = (holds.so.seats j reader (elsewhere s.views i j w apart ∙ at)).held.0.0 in
-      let gone = ap (λ (m : Mem (Node ℕ ℕ)). value_at m 4) (sym holds.so.memory) in cc (there, gone)
+      let gone : value_at world.scene.world.memory 4 ≡ None = ap (λ (m : Mem (Node ℕ ℕ)). value_at m 4) (sym holds.so.memory) in cc (there, gone)
 
   -- and an end that has come to its table has not looked at its pair
-  looks_aside : (scene : Scene ℕ ℕ) → KnowsTable same hash scene (Ends at_table) ((3, Pair 5 7) ∷ []) → ⊥
+  looks_aside : (scene : Scene ℕ ℕ) → KnowsTable same hash scene (Ends record { machine = at_table; left = 0; along = 0 }) ((3, Pair 5 7) ∷ []) → ⊥
   looks_aside scene knows = let here = (knows 3 (Pair 5 7) refl).1 in omega (arith, here)

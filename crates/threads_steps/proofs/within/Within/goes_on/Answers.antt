@@ -1,7 +1,8 @@
 use Rattle.std.proofs.Common.{subst, sym, ◌∙◌}
 use Rattle.seize.specs.declared.advance.Advance.{Advance}
 use Rattle.map_tables.specs.declared.setting.Setting.{Setting}
-use Rattle.threads_rule.specs.Errands.Making.{MadeSo, KnowsStill, StaysChosen}
+use Rattle.threads_rule.specs.Errands.Making.{MadeSo, KnowsStill}
+use Rattle.threads_kinds.specs.Makings.{StaysChosen}
 use Rattle.threads_steps.proofs.Makings.{is_done, is_refused}
 use Rattle.threads_steps.proofs.within.Within.goes_on.Goals as goal
 

@@ -1,5 +1,6 @@
 use Rattle.threads_steps.specs.Made.{IsSameSeat}
-use Rattle.threads_rule.specs.Errands.Making.{MakesMap, KnowsAlike, chosen_of, left_of}
+use Rattle.threads_rule.specs.Errands.Making.{MakesMap, KnowsAlike}
+use Rattle.threads_kinds.specs.Makings.{chosen_of, left_of}
 use Rattle.threads_steps.proofs.within.Within.goes_on.Given as goal
 use Rattle.threads_rule.specs.Views.Rule.{side_of}
 use Rattle.std.proofs.Common.{◌≡◌}

@@ -17,7 +17,7 @@ use Rattle.seize_views.specs.Views.Told.{FollowsBy}
 use Rattle.seize_views.proofs.Views.Looks.{rest_of, IsNow}
 use Rattle.seize_views.specs.Views.Promises.{op_in}
 use Rattle.threads_kinds.specs.CallKinds.Answers.{IsAnswer}
-use Rattle.threads_rule.specs.Errands.Making.{IsEarly, left_at, StaysChosen, GetsOn}
+use Rattle.threads_kinds.specs.Makings.{IsEarly, left_at, StaysChosen, GetsOn}
 use Rattle.threads_kinds.proofs.CallKinds.Plans.{LeavesValues, IsAnsweredBy, answered_by}
 use Rattle.seize_views.proofs.Views.Makes.{IsDo}
 
