@@ -32,6 +32,7 @@ use Rattle.threads_updates.specs.Given.CallersDeclared.caller.MapCaller.{MapCall
 use Rattle.threads_updates.specs.Given.CallsShown.{IsPairLent}
 use Rattle.threads_updates.specs.Given.SeizeViewsDeclared.view.Fixed.{Fixed}
 use Rattle.threads_updates.specs.Given.SeizeViewsDeclared.view.Has.TheVariants.{Nothing}
+use Rattle.threads_updates.specs.Given.SeizeViewsDeclared.view.SlotView.{SlotView}
 use Rattle.threads_updates.specs.Given.SeizeViewsDeclared.view.SlotView.TheVariants.{Inside}
 use Rattle.threads_updates.specs.Given.CallsDeclared.session.SessionBase.{SessionBase}
 use Rattle.threads_updates.specs.Updated.{HasComputed, HasUpdated, IsLeft, IsSo}
@@ -203,7 +204,7 @@ module _ {K V S : Type 0} {h : hashing.Ghosts K} (same : K → K → Bool) (hash
     has_computed done has =
         let key = has.told.0 in let u = has.before in let run = has.told.2.ran in let there = has.told.2.stays in
         let its : BegunCall K V = record { map = run.0.number; began = machine_for same hash run.0 run.1 (Compute key); told = outcome_of (Ok has.answer) } in
-        let within = ap (λ s. section_of s.1 s.0) there.slot ∙ run.3 in (
+        let within = ap (λ (s : (SlotView (Node K V) × Option (ℕ × ℕ)) × Option ℕ). section_of s.0.1 s.0.0) there.slot ∙ run.3 in (
           has,
           all_told key done has.answer has.so
               (λ became word tells pair lent.

@@ -31,8 +31,7 @@ pub enum ComputedPair<T> {
     Aborted(T),
 }
 
-/// Returns what has become of the key, by what its call has answered, and with what was said last that nothing is to change: nothing yet, where the call has changed nothing,
-/// and that was not said.
+/// Returns what has become of the key, by its call's answer and what was said last to change nothing: nothing yet, where it changed nothing, and none was said.
 fn done<E: Drop>(answer: Answer, end: Option<E>) -> Option<ComputedPair<E>>
     ensures done { IfSome result (λ done. IsSo done answer × EndsSo end done) }
     ensures left { IfNone result (IsLeft answer) }
@@ -54,8 +53,7 @@ fn done<E: Drop>(answer: Answer, end: Option<E>) -> Option<ComputedPair<E>>
     }
 }
 
-/// Begins a call that computes on a clone of a key, within the section of a session's slot, and runs it to its end. Answers what has become of the key, or nothing yet. Where there
-/// is no memory for the clone, none was begun.
+/// Runs a call that computes on a clone of a key, and answers what has become of the key, or nothing yet. Where there is no memory for the clone, none begins.
 fn tries<R: Wait, K: Eq + Hash + Clone + Drop, V: Drop, S: Hashes<K>, D: Decides<K, V>>(
     session: &mut SessionBase<'_, K, V, S>,
     rt: &R,

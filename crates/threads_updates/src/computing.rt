@@ -1,5 +1,4 @@
-//! A session's call that computes: it is told of the pair of its key, or of none, what is said of that. It is told one value; where another one has changed the pair
-//! meanwhile, it is told to leave that as it is, so that who has begun it begins another one.
+//! A session's call that computes. It is told one value for its pair, or for none; where another one changed that meanwhile, to leave it: then the next begins.
 ghost use Rattle.std.specs.Prelude.{◌≡◌, Option, Some, false, option_map};
 ghost use Rattle.seize_words.specs.OneMemory.Word.{block_in};
 ghost use Rattle.map_tables.specs.declared.node.Node.TheVariants.{Pair};

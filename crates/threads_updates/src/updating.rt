@@ -53,8 +53,7 @@ pub fn update<R: Wait, K: Eq + Hash + Clone + Drop, V: Drop, S: Hashes<K>, F: Fn
     }
 }
 
-/// Replaces the value of a key by one that is made of it, or stores a clone of this one where the key is missing, within the section of a session's slot, and answers
-/// with the new pair, which is there until its next step. The faults are those of `update`.
+/// Replaces the value of a key by one made of it, or stores a clone of this one where the key is missing. The new pair and the faults are as of `update`.
 pub fn update_or_insert<
     R: Wait,
     K: Eq + Hash + Clone + Drop,
@@ -87,8 +86,7 @@ pub fn update_or_insert<
     }
 }
 
-/// Replaces the value of a key by one that is made of it, or stores one that is begun where the key is missing, within the section of a session's slot, and answers with the
-/// new pair, which is there until its next step. The faults are those of `update`.
+/// Replaces the value of a key by one that is made of it, or stores one that is begun where the key is missing. The new pair and the faults are as of `update`.
 pub fn update_or_insert_with<
     R: Wait,
     K: Eq + Hash + Clone + Drop,
