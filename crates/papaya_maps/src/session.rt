@@ -82,7 +82,8 @@ impl<'m, 'c, K: Eq + Hash + Drop, V: Drop, S: Hashes<K>> CollectorSession<'m, 'c
     pub fn insert<R: Wait>(&mut self, rt: &R, key: K, value: V) -> Result<Option<&V>, Refused<K, V>>
         ensures* stored { sem 𝓛 (EndsSo K.row V.row S.row K.PartialEq S.Hashes self.entry (λ now. KeepsMap self.old now
             × IfOk result (λ old. (pair : Option (K × V)) × (option_map (λ value. value.now) old ≡ option_map (λ p. p.1) pair) × MapCameToHaveOn K.eq S.hash now.guard.caller now.map.now.owner key value pair self.old.pass.seat.seat.view now.pass.seat.seat.view)
-            × IfErr result (λ r. (r.key ≡ key) × (r.value ≡ value) × WasRefusedOn K.eq S.hash now.guard.caller now.map.now.owner (Insert key value) r.fault self.old.pass.seat.seat.view now.pass.seat.seat.view))) }
+            × IfErr result (λ r. (r.key ≡ key) × (r.value ≡ value))
+            × IfErr result (λ r. WasRefusedOn K.eq S.hash now.guard.caller now.map.now.owner (Insert key value) r.fault self.old.pass.seat.seat.view now.pass.seat.seat.view))) }
     {
         self.map.puts(rt, key, value, &self.guard, &mut self.pass)
     }
@@ -95,8 +96,10 @@ impl<'m, 'c, K: Eq + Hash + Drop, V: Drop, S: Hashes<K>> CollectorSession<'m, 'c
         value: V,
     ) -> Result<(&V, Attempt<K, V>), Refused<K, V>>
         ensures* tried { sem 𝓛 (EndsSo K.row V.row S.row K.PartialEq S.Hashes self.entry (λ now. KeepsMap self.old now
-            × IfOk result (λ told. CameBack key value told.1 × ((found : K) × MapLackedOn K.eq S.hash now.guard.caller now.map.now.owner key value (has_stored told.1) (found, told.0.now) self.old.pass.seat.seat.view now.pass.seat.seat.view))
-            × IfErr result (λ r. (r.key ≡ key) × (r.value ≡ value) × WasRefusedOn K.eq S.hash now.guard.caller now.map.now.owner (TryToInsert key value) r.fault self.old.pass.seat.seat.view now.pass.seat.seat.view))) }
+            × IfOk result (λ told. CameBack key value told.1)
+            × IfOk result (λ told. (found : K) × MapLackedOn K.eq S.hash now.guard.caller now.map.now.owner key value (has_stored told.1) (found, told.0.now) self.old.pass.seat.seat.view now.pass.seat.seat.view)
+            × IfErr result (λ r. (r.key ≡ key) × (r.value ≡ value))
+            × IfErr result (λ r. WasRefusedOn K.eq S.hash now.guard.caller now.map.now.owner (TryToInsert key value) r.fault self.old.pass.seat.seat.view now.pass.seat.seat.view))) }
     {
         self.map.tries(rt, key, value, &self.guard, &mut self.pass)
     }
@@ -120,8 +123,10 @@ impl<'m, 'c, K: Eq + Hash + Drop, V: Drop, S: Hashes<K>> CollectorSession<'m, 'c
             × IfOk result (λ taken. (pair : Option (K × V)) × (option_map (λ value. value.now) taken ≡ option_map (λ p. p.1) pair) × MapGaveUpOn K.eq S.hash now.guard.caller now.map.now.owner (Q.stands_for key.now) pair self.old.pass.seat.seat.view now.pass.seat.seat.view)
             × IfErr result (λ fault. WasRefusedOn K.eq S.hash now.guard.caller now.map.now.owner (Remove (Q.stands_for key.now)) fault self.old.pass.seat.seat.view now.pass.seat.seat.view))) }
     {
-        let taken = self.remove_entry(rt, key)?;
-        Ok(value_of(taken))
+        match self.map.takes(rt, key, &self.guard, &mut self.pass) {
+            Ok(taken) => Ok(value_of(taken)),
+            Err(fault) => Err(fault),
+        }
     }
 
     /// Returns how many pairs the map has, by its count.

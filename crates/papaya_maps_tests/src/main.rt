@@ -35,15 +35,15 @@ fn one_guard<R: Wait>(rt: &R, shared: &Shared) -> Told<bool> {
     let b = shared.builder(Hashing::default()).build()?;
     let guard = shared.guard()?;
     let mut pass = shared.pass();
-    let none = a.insert(rt, 1, 10, &guard, &mut pass)?;
-    let other = b.insert(rt, 1, 20, &guard, &mut pass)?;
+    let none = a.insert(rt, 1, 10, &guard, &mut pass)?.is_none();
+    let other = b.insert(rt, 1, 20, &guard, &mut pass)?.is_none();
     let lent = a.get(rt, &1, &guard, &mut pass)?;
     let its = b.get(rt, &1, &guard, &mut pass)?.copied();
     drop(b);
     let replaced = a.insert(rt, 1, 11, &guard, &mut pass)?;
     let taken = a.remove(rt, &1, &guard, &mut pass)?;
     let found = [lent.copied(), its, replaced.copied(), taken.copied()];
-    Ok(none.is_none() && other.is_none() && found == [Some(10), Some(20), Some(10), Some(11)])
+    Ok(none && other && found == [Some(10), Some(20), Some(10), Some(11)])
 }
 
 /// A value that is counted as it is dropped.

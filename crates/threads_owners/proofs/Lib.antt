@@ -1,2 +1,2 @@
-mod Loans
-mod Owning
+mod OnBoth
+mod Rests

@@ -1,5 +1,5 @@
 use Rattle.seize_callers.proofs.Keeping.{none_away}
-use Rattle.threads_owners.proofs.Owning.{rests_ended}
+use Rattle.threads_owners.proofs.Rests.{rests_ended}
 use Rattle.threads_owners.proofs.owning.ends_own.Goals as goal
 
 pub errand-requires-clause-home : goal.errand-requires-clause-home

@@ -4,7 +4,7 @@ use Rattle.seize_seats.specs.Seats.Errands.{Away, Lends}
 use Rattle.threads_errands.specs.Given.CallKindsKinds.{PairIsVisible}
 use Rattle.threads_errands.specs.Given.ViewsDeclared.view.View.{View}
 use Rattle.threads_errands.specs.Given.ViewsLooks.{shown_in}
-use Rattle.threads_owners.proofs.Loans.{back_so, borrowed_leans, comes_home, ends_at, ends_on, ends_under, leans_on_both, may_borrow, may_lean_on, restored_leans}
+use Rattle.threads_owners.proofs.OnBoth.{back_so, borrowed_leans, comes_home, ends_at, ends_on, ends_under, leans_on_both, may_borrow, may_lean_on, restored_leans}
 use Rattle.threads_callers.proofs.Passing.{leans_so}
 use Rattle.threads_owners.specs.Loans.{IsLentIf, Names}
 use Rattle.threads_owners.proofs.lending.OnLoanErrandWithTwoNodeOfMaps.run.Goals as goal

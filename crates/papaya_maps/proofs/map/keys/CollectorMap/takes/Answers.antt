@@ -32,9 +32,9 @@ pub returns-in-Ok-clause-removed : goal.returns-in-Ok-clause-removed
 returns-in-Ok-clause-removed g c =
     let m = c.args.self.now in let k = c.args.guard.now in let d = c.lends-done.result in let lent = c.lends-done.ensures.lent in let v = c.args.pass.now.seat.seat.view in let w = c.lends-done.new.pass.seat.view in
     let short = small k.caller.blocks.now.words.fixed.batch_size k.small in
-    let told = ap (λ p. p.0) (sym c.parts-told.ensures) ∙ c.in-Ok.is in let on = told_on g.K.PartialEq.eq g.S.Hashes.hash k.caller m.owner v w told lent.on in
+    let told = ap (λ p. p.0) (sym c.parts-told.ensures) ∙ c.in-Ok.is in let on = told_on g.K.PartialEq.eq g.S.Hashes.hash k.caller m.owner short v w told lent.on in
     gave_up_on g.K.PartialEq.eq g.S.Hashes.hash k.caller m.owner short v w (g.Q.Equivalent.stands_for c.args.key.now) c.in-Ok.answer (option_map (λ pair. (pair.0.now, pair.1.now)) c.if_removed.result) on
-    (removed_gone g.K.PartialEq.eq g.S.Hashes.hash k.caller m.owner v w on.knew c.in-Ok.answer (option_map (λ pair. (pair.0.now, pair.1.now)) d.gone) (option_map (λ pair. (pair.0.now, pair.1.now)) c.if_removed.result)
+    (removed_gone g.K.PartialEq.eq g.S.Hashes.hash k.caller m.owner short v w on.knew c.in-Ok.answer (option_map (λ pair. (pair.0.now, pair.1.now)) d.gone) (option_map (λ pair. (pair.0.now, pair.1.now)) c.if_removed.result)
     (subst (λ (r : Result Answer Fault). IsLentIf g.K.PartialEq.eq g.S.Hashes.hash k.caller m.owner on.knew (names_of r).0 (option_map (λ pair. (pair.0.now, pair.1.now)) d.gone)) told lent.gone)
     (if_mapped (λ pair. (pair.0.now, pair.1.now)) _ d.gone c.if_removed.result (subst (λ o. IsIf (removed_by c.in-Ok.answer) o c.if_removed.result) (ap (λ p. p.1) c.parts-told.ensures) c.if_removed.ensures)))
 
@@ -42,4 +42,4 @@ pub returns-in-Err-clause-refused : goal.returns-in-Err-clause-refused
 returns-in-Err-clause-refused g c =
     let m = c.args.self.now in let k = c.args.guard.now in let d = c.lends-done.result in let lent = c.lends-done.ensures.lent in let v = c.args.pass.now.seat.seat.view in let w = c.lends-done.new.pass.seat.view in
     let short = small k.caller.blocks.now.words.fixed.batch_size k.small in
-    refused_on g.K.PartialEq.eq g.S.Hashes.hash k.caller m.owner short v w (Remove (g.Q.Equivalent.stands_for c.args.key.now)) c.in-Err.fault refl (told_on g.K.PartialEq.eq g.S.Hashes.hash k.caller m.owner v w (ap (λ p. p.0) (sym c.parts-told.ensures) ∙ c.in-Err.is) lent.on)
+    refused_on g.K.PartialEq.eq g.S.Hashes.hash k.caller m.owner short v w (Remove (g.Q.Equivalent.stands_for c.args.key.now)) c.in-Err.fault refl (told_on g.K.PartialEq.eq g.S.Hashes.hash k.caller m.owner short v w (ap (λ p. p.0) (sym c.parts-told.ensures) ∙ c.in-Err.is) lent.on)

@@ -14,7 +14,7 @@ pub refused-requires : goal.refused-requires
 refused-requires g c =
     let m = c.args.self.now in let k = c.args.guard.now in let d = c.stores-done.result in let lent = c.stores-done.ensures.stored in let v = c.args.pass.now.seat.seat.view in let w = c.stores-done.new.pass.seat.seat.view in
     let short = small k.caller.blocks.now.words.fixed.batch_size k.small in
-    let on = told_on g.K.PartialEq.eq g.S.Hashes.hash k.caller m.owner v w (ap (λ p. p.0.told) (sym c.parts-ran.ensures) ∙ c.in-Err.is) lent.on in
+    let on = told_on g.K.PartialEq.eq g.S.Hashes.hash k.caller m.owner short v w (ap (λ p. p.0.told) (sym c.parts-ran.ensures) ∙ c.in-Err.is) lent.on in
     record { back = (c.args.key, c.args.value, ap (λ p. p.0.unstored) c.parts-ran.ensures ∙ on.done.back (Pair c.args.key c.args.value) refl) }
 
 pub returns-in-Err-clause-refused : goal.returns-in-Err-clause-refused
@@ -22,12 +22,12 @@ returns-in-Err-clause-refused g c =
     let m = c.args.self.now in let k = c.args.guard.now in let d = c.stores-done.result in let lent = c.stores-done.ensures.stored in let v = c.args.pass.now.seat.seat.view in let w = c.stores-done.new.pass.seat.seat.view in
     let short = small k.caller.blocks.now.words.fixed.batch_size k.small in
     refused_on g.K.PartialEq.eq g.S.Hashes.hash k.caller m.owner short v w (TryToInsert c.args.key c.args.value) c.refused.result.fault refl
-    (told_on g.K.PartialEq.eq g.S.Hashes.hash k.caller m.owner v w ((ap (λ p. p.0.told) (sym c.parts-ran.ensures) ∙ c.in-Err.is) ∙ ap Err (sym c.refused.ensures.fault)) lent.on)
+    (told_on g.K.PartialEq.eq g.S.Hashes.hash k.caller m.owner short v w ((ap (λ p. p.0.told) (sym c.parts-ran.ensures) ∙ c.in-Err.is) ∙ ap Err (sym c.refused.ensures.fault)) lent.on)
 
 pub returns-in-Err-clause-back : goal.returns-in-Err-clause-back
 returns-in-Err-clause-back g c =
     let m = c.args.self.now in let k = c.args.guard.now in let d = c.stores-done.result in let lent = c.stores-done.ensures.stored in let v = c.args.pass.now.seat.seat.view in let w = c.stores-done.new.pass.seat.seat.view in
     let short = small k.caller.blocks.now.words.fixed.batch_size k.small in
-    let on = told_on g.K.PartialEq.eq g.S.Hashes.hash k.caller m.owner v w (ap (λ p. p.0.told) (sym c.parts-ran.ensures) ∙ c.in-Err.is) lent.on in
+    let on = told_on g.K.PartialEq.eq g.S.Hashes.hash k.caller m.owner short v w (ap (λ p. p.0.told) (sym c.parts-ran.ensures) ∙ c.in-Err.is) lent.on in
     one_back d.answer.unstored c.refused.result.key c.args.key c.refused.result.value c.args.value (sym (ap (λ p. p.0.unstored) c.parts-ran.ensures) ∙ c.refused.ensures.back)
     (on.done.back (Pair c.args.key c.args.value) refl)
