@@ -147,7 +147,7 @@ pub struct CollectorMapBuilder<'c, K: Eq + Hash + Drop, V: Drop, S: Hashes<K> = 
 impl<'c, K: Eq + Hash + Drop, V: Drop, S: Hashes<K> + Drop> CollectorMapBuilder<'c, K, V, S> {
     /// Chooses how many places the map copies at a time as it grows.
     pub fn copies(self, places: u64) -> Self
-        ensures { result ≡ record self { copies = places } }
+        ensures { result ≡ record self.entry { copies = places } }
     {
         CollectorMapBuilder {
             copies: places,
@@ -157,7 +157,7 @@ impl<'c, K: Eq + Hash + Drop, V: Drop, S: Hashes<K> + Drop> CollectorMapBuilder<
 
     /// Chooses that its pairs are counted for so many processors, 2^63 at most.
     pub fn shards(self, shards: u64) -> Self
-        ensures { result ≡ record self { shards = shards } }
+        ensures { result ≡ record self.entry { shards = shards } }
     {
         CollectorMapBuilder { shards, ..self }
     }
@@ -165,11 +165,11 @@ impl<'c, K: Eq + Hash + Drop, V: Drop, S: Hashes<K> + Drop> CollectorMapBuilder<
     /// Returns the map, with no pair, and with no table yet. The faults, the first that holds, are `Fault::ZeroChunk`, where no place would ever be copied; `Fault::RootsUsedUp`, where
     /// each root was in use at its try: by a map that stands, or by what waits of one that has ended; and `Fault::Memory`.
     pub fn build(self) -> Result<CollectorMap<'c, K, V, S>, Fault>
-        ensures some { OnOk result (self.copies ≢ 0) }
-        ensures memory { IfOk result (λ map. map.owner.blocks.now ≡ self.collector.now.home.blocks) }
-        ensures number { IfOk result (λ map. map.number ≡ self.collector.now.collector.number) }
-        ensures hasher { IfOk result (λ map. map.hasher ≡ self.hasher) }
-        ensures mode { IfOk result (λ map. map.setting.mode ≡ Incremental self.copies) }
+        ensures some { OnOk result (self.entry.copies ≢ 0) }
+        ensures memory { IfOk result (λ map. map.owner.blocks.now ≡ self.entry.collector.now.home.blocks) }
+        ensures number { IfOk result (λ map. map.number ≡ self.entry.collector.now.collector.number) }
+        ensures hasher { IfOk result (λ map. map.hasher ≡ self.entry.hasher) }
+        ensures mode { IfOk result (λ map. map.setting.mode ≡ Incremental self.entry.copies) }
     {
         let CollectorMapBuilder {
             collector,

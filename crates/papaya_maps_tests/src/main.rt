@@ -141,21 +141,19 @@ fn foreign<R: Wait>(rt: &R, shared: &Shared, other: &Shared) -> Told<bool> {
     )
 }
 
-/// Leaves a map of this collector that has grown, and from which keys were removed meanwhile.
+/// Leaves a map of this collector that grows, as its first table has 32 places, and from which keys were removed that had been copied by then.
 fn leaves<R: Wait>(rt: &R, shared: &Shared) -> Told<()> {
     let map = shared.builder(Hashing::default()).copies(1).build()?;
     let mut session = map.session()?;
-    for key in 0..29 {
-        let _ = session.insert(rt, key, key)?;
-    }
-    for key in 0..29 {
+    stores(rt, &mut session, 0, 33)?;
+    for key in 0..16 {
         let _ = session.remove(rt, &key)?;
     }
     Ok(())
 }
 
 /// Tells whether the only root is in use as long as a map stands there, and until what waits of it is reclaimed.
-fn roots<R: Wait>(rt: &R, shared: Shared) -> Told<[bool; 4]> {
+fn roots<R: Wait>(rt: &R, shared: Shared) -> Told<bool> {
     let mut shared = shared;
     let map = shared.builder(Hashing::default()).build()?;
     let none = shared.builder(Hashing::default()).build();
@@ -169,7 +167,7 @@ fn roots<R: Wait>(rt: &R, shared: Shared) -> Told<[bool; 4]> {
     drop(none);
     shared.reclaim_all();
     let free = shared.builder(Hashing::default()).build().is_ok();
-    Ok([used, again, waits, free])
+    Ok(used && again && waits && free)
 }
 
 /// All of it.
@@ -193,10 +191,12 @@ fn all<R: Threads + Wait + Sync + Print>(rt: &R, alloc: Global) -> io::Result<bo
         "a guard and a pass of another collector are refused",
         so,
     )? && is_so;
-    match roots(rt, other) {
-        Ok(so) => println!(rt; "roots: {so:?}")?,
-        Err(fault) => println!(rt; "roots: {fault}")?,
-    }
+    let so = roots(rt, other);
+    is_so = tells(
+        rt,
+        "a root is in use until what waits there is reclaimed",
+        so,
+    )? && is_so;
     Ok(is_so)
 }
 

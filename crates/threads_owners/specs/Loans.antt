@@ -89,11 +89,11 @@ module _ {K V S : Type 0} where
     AllEndThere = (answer : A) (v w : View K V S) → did v answer w → EndsThere (names answer) v w
 
     -- A pass that has come back may be sent so: guard and owner are of this memory, and have these numbers.
-    pub record IsSentOn (asks : View K V S → Type 0) (guard owner : MapCaller K V S) (name guards owns : ℕ) (v : View K V S) : Type 0 where
+    pub record IsSentOn (asks : View K V S → Type 0) (guard owner : MapCaller K V S) (name first second : ℕ) (v : View K V S) : Type 0 where
       pub memory : guard.blocks.now.words.id.views_name ≡ name
       pub one : owner.seat.base ≡ name
-      pub guards : guard.seat.id ≡ guards
-      pub owns : owner.seat.id ≡ owns
+      pub guards : guard.seat.id ≡ first
+      pub owns : owner.seat.id ≡ second
       pub back : IsBack v
       pub may : MayDoOn asks guard owner v
       pub ends : AllEndThere
@@ -112,7 +112,7 @@ module _ {K V S : Type 0} (same : K → K → Bool) (hash : S → K → ℕ) (gu
   IsLentIf knew word pair = ⊥
 
   -- It has done something so, has answered this, and the pairs that the answer names are lent.
-  pub record HasLent {A : Type 0} (did : View K V S → A → View K V S → Type 0) (names : A → Names) (answer : A) (gone there : Option (K × V)) (v w : View K V S) : Type 0 where
+  pub record HasLent {A : Type 0} (did : View K V S → A → View K V S → Type 0) (names : A → Names) (answer : A) (lost kept : Option (K × V)) (v w : View K V S) : Type 0 where
     pub on : HasDoneOn (λ x y. did x answer y) guard owner v w
-    pub gone : IsLentIf on.knew (names answer).0 gone
-    pub there : IsLentIf on.knew (names answer).1 there
+    pub gone : IsLentIf on.knew (names answer).0 lost
+    pub there : IsLentIf on.knew (names answer).1 kept

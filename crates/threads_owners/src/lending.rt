@@ -181,7 +181,7 @@ pub fn lends<
 impl<'g, 'a, K: Eq, V, S: Hashes<K>, A> Done<'g, 'a, K, V, S, A> {
     /// Returns its parts.
     pub fn parts(self) -> (A, Option<(&'g K, &'g V)>, Option<(&'g K, &'g V)>)
-        ensures { result ≡ (self.answer, self.gone, self.there) }
+        ensures { result ≡ (self.entry.answer, self.entry.gone, self.entry.there) }
     {
         let Done {
             answer,
