@@ -50,19 +50,19 @@ may_from : {T R M : Type 0} (can : M → Op T → Type 0) (took : M → Op T →
 may_from can took shown m (Turn rest) is may looks = absurd is
 may_from can took shown m (Do op rest) is may looks = (may op refl, λ out n t. looks op out n t)
 
-module _ {K V : Type 0} (e : EndMap) where
-  abbrev Rest : Type 0
-  Rest = Then (Node K V) (EndMap × Settled (Node K V))
-
+-- each step but that of an end that is over makes one operation, which replaces no value
+module _ (K V : Type 0) (e : EndMap) where
   is_do : (p : Ending) → IsOn p → IsDo (plan_at {K = K} {V = V} e p)
   is_do at.Over on = on
   is_do _ on = tt
 
   leaves : (p : Ending) → LeavesValues (plan_at {K = K} {V = V} e p)
+  leaves at.Over = tt
   leaves _ = tt
 
-  -- along a list it goes on
-  either : (shown : ℕ → Option (Node K V)) (end : EndMap × Settled (Node K V)) (b : Bool) (x y : Rest) → (EndsAt shown x end → end.1 ≡ settled.Goes) → (EndsAt shown y end → end.1 ≡ settled.Goes)
+-- along a list it goes on
+module _ {K V : Type 0} (e : EndMap) where
+  either : (shown : ℕ → Option (Node K V)) (end : EndMap × Settled (Node K V)) (b : Bool) (x y : Then (Node K V) (EndMap × Settled (Node K V))) → (EndsAt shown x end → end.1 ≡ settled.Goes) → (EndsAt shown y end → end.1 ≡ settled.Goes)
       → EndsAt shown (if b then x else y) end → end.1 ≡ settled.Goes
   either shown end true x y one other ends = one ends
   either shown end false x y one other ends = other ends
@@ -96,7 +96,7 @@ module _ {K V S : Type 0} (same : K → K → Bool) (hash : S → K → ℕ) (c 
 
   makes : (op : Op (Node K V)) → op_in plan ≡ Some op → can c op
   makes op e = record {
-    alone = has_alone same hash c.within op (leaves_values plan op (leaves machine machine.stands) e);
+    alone = has_alone same hash c.within op (leaves_values plan op (leaves K V machine machine.stands) e);
     may =
         endings_go_on V same hash c.within.blocks.now.words.fixed c.within.seat.now.id v is.end op is.works
         (subst (λ (x : EndMap). op_in (end_map_plan {K = K} {V = V} x) ≡ Some op) (sym is.is) e);
@@ -141,7 +141,7 @@ module _ {K V S : Type 0} (same : K → K → Bool) (hash : S → K → ℕ) (c 
       }
 
   pub may_step : May can took shown c plan
-  may_step = may_from can took shown c plan (is_do machine machine.stands is.on) makes (λ op out n t. (came op out n t).may)
+  may_step = may_from can took shown c plan (is_do K V machine machine.stands is.on) makes (λ op out n t. (came op out n t).may)
 
   -- what a step has come to
   pub record Got (w : View K V S) (end : EndMap × Settled (Node K V)) : Type 0 where
@@ -187,7 +187,7 @@ module _ {K V S : Type 0} (same : K → K → Bool) (hash : S → K → ℕ) (c 
   pub has_stepped : (n : Ender K V S) (end : EndMap × Settled (Node K V)) → Steps took shown c plan n end
       → Got n.within.seat.now.view end × (is_along machine.stands ≡ true → end.1 ≡ settled.Goes) × IsSameSeat c.within n.within
   has_stepped n end st =
-      let k = was_made can took shown c plan n end (is_do machine machine.stands is.on) st in
+      let k = was_made can took shown c plan n end (is_do K V machine machine.stands is.on) st in
       let t = came k.0 k.1 n k.3 in
       let one : ◌≡◌ {A = EndMap × Settled (Node K V)} (t.end.machine, t.told) end = follows_one (shown n) plan k.1 (t.end.machine, t.told) end t.follows k.4 in (
         subst (λ (x : EndMap × Settled (Node K V)). Got n.within.seat.now.view x) one (goes_so n.within.seat.now.view t.end t.told t.view t.less),

@@ -317,7 +317,6 @@ module _ {K V S : Type 0} (same : K → K → Bool) (hash : S → K → ℕ) (fi
         own_still : KnowsMap same hash n2 v.own
         own_still = map_on same hash scene n2 id place fits.slot fixed.batch_size None step_leaves v.own (all_last same hash scene n2 id place fits.slot fixed.batch_size None step_leaves none_ends v.own) fits.own
 
-        -- the making is over
         over : it ≡ None → HasRow n2 i v.slot
         over gone = subst (λ (x : SlotView (Node K V)). HasRow n2 i x) (sym does.0) (record {
           row = rows i ∙ does.2;

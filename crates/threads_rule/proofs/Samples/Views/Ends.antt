@@ -1,11 +1,12 @@
 -- Wrong ends of maps: a step that takes a pair of another map, which a section holds, and a look at another block than its table. The rule holds of neither.
-use Rattle.std.specs.Prelude.{◌≢◌, ℕ, ◌+◌, Bool, [], ◌∷◌, Some, None}
+use Rattle.std.specs.Prelude.{◌≢◌, ℕ, ◌+◌, Bool, false, [], ◌∷◌, Some, None}
 use Rattle.std.proofs.Common.{◌≡◌, refl, sym, ap, arith, ◌∙◌}
 use Rattle.seize_words.specs.OneMemory.Mem.{Mem, Took, value_at, fresh, with_block}
 use Rattle.seize_words.specs.OneMemory.Op.{Take, Taken}
 use Rattle.seize_words.specs.OneMemory.Plan.{Plan, Do, Steps}
 use Rattle.seize_words.specs.OneMemory.Word.{block_in}
 use Rattle.seize.specs.declared.rows.settle.Settled.{Settled}
+use Rattle.seize.specs.declared.rows.settle.Settled.TheVariants.{Gave}
 use Rattle.map_tables.specs.declared.node.Node.{Node}
 use Rattle.map_tables.specs.declared.node.Node.TheVariants.{Pair, Shards, Table as TableNode}
 use Rattle.map_tables.specs.declared.resize_mode.ResizeMode.TheVariants.{Incremental}
@@ -48,7 +49,7 @@ abbrev left : Mem (Node ℕ ℕ)
 left = with_block memory 4 None
 
 steps : (end : EndMap × Settled (Node ℕ ℕ)) × Steps Took value_at memory (takes_another machine 6144) left end
-steps = (_, Taken (Pair 5 8), (refl, refl), refl)
+steps = ((next_place machine, Gave (Pair 5 8)), (Taken (Pair 5 8), (refl, refl), refl))
 
 -- or it has come to its table
 abbrev at_table : EndMap

@@ -3,9 +3,11 @@ use Rattle.threads_rule.proofs.Errands.Beginnings.{came_from, makes_it}
 use Rattle.threads_steps.proofs.within.Within.makes_map.Goals as goal
 
 pub goes_on-requires : goal.goes_on-requires
-goes_on-requires g c =
-    makes_it c.args.own c.args.hasher.now c.args.opening c.args.self.now.seat.now.view c.begins_to_make.new.self.seat.now.view c.begins_to_make.ensures.begins c.args.self.now.blocks.now.words.fixed
-    c.requires.may c.requires.yet
+goes_on-requires g c = record {
+  makes =
+      makes_it c.args.own c.args.hasher.now c.args.opening c.args.self.now.seat.now.view c.begins_to_make.new.self.seat.now.view c.begins_to_make.ensures.begins c.args.self.now.blocks.now.words.fixed
+      c.requires.may c.requires.yet;
+}
 
 pub returns-clause-made : goal.returns-clause-made
 returns-clause-made g c =
