@@ -294,11 +294,13 @@ module _ {K V S : Type 0} (same : K → K → Bool) (hash : S → K → ℕ) (fi
         → Steps Took value_at scene_now.world.memory (end_map_plan {K = K} {V = V} d.machine) w2.memory (step_led.3, told) → Goes (Holds same hash fixed) KeepsFor s m2 id so_told
     by so_told settled.Goes is came seen st =
         let less = (ends_get_on V same fixed.batch_size scene_now.world w2 me d step_led.3 (d.waits ++ waiting_by did.deed) (all_now.facts me d step_led.1)).0 (facts_then _ came.1) st in
-        goes_on _ came.1 so_told (looked_at settled.Goes seen) (is _ (less_than settled.Goes _ less))
+        let after : ℕ × ℕ = left_of (record d { machine = step_led.3; waits = d.waits ++ waiting_by did.deed }) in
+        goes_on _ came.1 so_told (looked_at settled.Goes seen) (is after (less_than settled.Goes after less))
     by so_told settled.Waits is came seen st = absurd came
     by so_told (settled.Gave value) is (b, was, taken, came) seen st =
         let less = (ends_get_on V same fixed.batch_size scene_now.world w2 me d step_led.3 (d.waits ++ waiting_by did.deed) (all_now.facts me d step_led.1)).1 b value (facts_then _ came) st in
-        goes_on _ came so_told (looked_at (settled.Gave value) seen) (is _ (less_than (settled.Gave value) _ less))
+        let after : ℕ × ℕ = left_of (record d { machine = step_led.3; back = d.back ++ b ∷ []; waits = d.waits ++ waiting_by did.deed }) in
+        goes_on _ came so_told (looked_at (settled.Gave value) seen) (is after (less_than (settled.Gave value) after less))
     by so_told settled.Done is came seen st =
         goes_by None (ended_after v made.looks (record { machine = step_led.3; left = 0; along = 0 }) settled.Done) so_told came.2 refl refl refl refl refl refl (λ other on. cc on) refl
         (record {
