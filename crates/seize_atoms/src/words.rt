@@ -247,7 +247,7 @@ impl<T, R: Rule<T>> StripWords<T, R> {
     ) -> Strip<T>
         requires { (pass.now.base ≡ self.now.id.views_name) × (guard.now.base ≡ self.now.id.views_name) × (owner.now.base ≡ self.now.id.views_name)
             × (doors ≡ self.now.id.doors) × (index < 32) × (self.now.id.place ≡ 0) × (self.now.id.size ≡ self.now.id.least)
-            × (self.now.id.least * 2 ^ index ≤ _block - 1)
+            × (0 < _block → self.now.id.least * 2 ^ index ≤ _block - 1)
             × VisibleToThree (R.holds self.now.fixed) pass.now.id pass.now.view guard.now.id guard.now.view owner.now.id owner.now.view _block }
         ensures { (core_of result.id ≡ core_of self.now.id) × (result.id.skip ≡ before (KeptOf T.row) result.id.size)
             × (result.id.values ≡ result.words)
@@ -275,7 +275,7 @@ impl<T, R: Rule<T>> StripWords<T, R> {
         requires { IsItsSign self.now.id _index place }
         ensures { (result.1.base ≡ self.now.id.hands_name) × (result.1.index ≡ _index) × (result.1.found ≡ result.0) }
     {
-        let found = unsafe { raw::fetch_or::<Brand>(self.words.add(place as usize), 1, SeqCst) };
+        let found = unsafe { raw::swap::<Brand>(self.words.add(place as usize), 1, SeqCst) };
         (found, Claim { found })
     }
 

@@ -73,3 +73,7 @@ module _ (least digits index : ℕ) (even : least ≡ 2 ^ digits) (far : least �
   pub follow : bit_xor index ((1 * 2 ^ top_of index) % 2 ^ 64) ≡ index - (1 * 2 ^ top_of index) % 2 ^ 64
   follow = let less = few in let is = whole (top_of index) (omega (arith, less)) in
       subst (λ (k : ℕ). bit_xor index k ≡ index - k) (sym is) (without index (top_of index) top.1 top.2)
+
+  -- a strip has at most half of all numbers
+  pub half : (1 * 2 ^ top_of index) % 2 ^ 64 + (1 * 2 ^ top_of index) % 2 ^ 64 ≤ 2 ^ 32
+  half = let less = few in let is = whole (top_of index) (omega (arith, less)) in let le : top_of index ≤ 31 = omega (arith, less) in let most = pow_mono le in omega (arith, is, most)

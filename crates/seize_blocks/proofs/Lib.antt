@@ -1,3 +1,4 @@
 pub mod By
 mod Digits
 mod Far
+mod Indices

@@ -1,5 +1,5 @@
 -- Which strips of a memory are had, and claims to numbers of them.
-use Rattle.std.specs.Prelude.{◌≡◌, ℕ, ◌+◌, ◌*◌, ◌<◌, ◌^◌}
+use Rattle.std.specs.Prelude.{◌≡◌, ℕ, ◌+◌, ◌-◌, ◌*◌, ◌<◌, ◌≤◌, ◌^◌}
 use denote.RawPtr.{InBlock}
 use Rattle.seize_seats.specs.Seats.Owned.{BaseId, core_of}
 use Rattle.seize_blocks.specs.declared.part.Part.{Part}
@@ -20,6 +20,10 @@ abbrev pub IsFound : {T : Type 0} → BaseId → Place T → Type 0
 IsFound z p =
     (core_of p.spot.strip.id ≡ core_of z) × InBlock p.spot.strip.words × (p.spot.values ≡ p.spot.strip.id.values)
     × IsItsIndex p.spot.strip.id p.block p.spot.index
+
+-- it is the block's index among all numbers, if these are so many, and in any case no higher one, and one of as many
+abbrev pub IsItsNumber : ℕ → ℕ → Type 0
+IsItsNumber block number = (number < 2 ^ 32) × (0 < block → (number < block) × (block ≤ 2 ^ 32 → number ≡ block - 1))
 
 -- a number of a strip, with its index in it, is claimed
 abbrev pub IsClaimed : {T : Type 0} → BaseId → Part T × ℕ × Claim → Type 0

@@ -111,28 +111,23 @@ impl<T, R: Rule<T>> Blocks<T, R> {
         requires { number < 2 ^ 32 }
         ensures { IfSome result (λ p. IsHad self.now.words.id p) }
     {
-        if number < self.count {
+        if number <= self.last {
             return Some(self.first_part());
         }
         let (door, first, _) = self.door_of(number);
-        if first > MOST / 2 {
-            return None;
-        }
         self.part_behind(door, first)
     }
 
-    /// A number of the strip of this one, from that on, if the strip is there and one is free.
+    /// A number of the strip of this one, from that on, if the strip is there and one is free. Behind the last number the first one follows.
     #[inline(always)]
     pub(crate) fn close(&self, from: u64) -> Option<(Part<T>, u64, Claim)>
         ensures { IfSome result (λ c. IsClaimed self.now.words.id c) }
     {
-        if from >= MOST {
-            return None;
-        }
-        let Some(part) = self.part_of(from) else {
+        let number = from % MOST;
+        let Some(part) = self.part_of(number) else {
             return None;
         };
-        match self.claim_in(&part, from.wrapping_sub(part.first)) {
+        match self.claim_in(&part, number.wrapping_sub(part.first)) {
             Some((index, claim)) => Some((part, index, claim)),
             None => None,
         }

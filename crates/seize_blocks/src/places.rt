@@ -9,6 +9,7 @@ ghost use Rattle.seize_atoms.specs.Visiting.{HoldsHere};
 ghost use Rattle.seize_words.specs.declared.at.At.TheVariants.{Slot, Word};
 ghost use Rattle.seize_seats.specs.Plots.Pieces.{lies};
 ghost use Rattle.seize_atoms.specs.Placed.{IsItsPlace, IsItsIndex, IsBehind, HasWord};
+ghost use Rattle.seize_blocks.specs.Parts.{IsItsNumber};
 
 use crate::access::Access;
 use crate::blocks::{Blocks, MOST};
@@ -17,6 +18,14 @@ use crate::part::{Reached, Spot, places_in, words_in};
 use seize_atoms::{Rule, Seat};
 use seize_seats::{Beside, Kept, skip_of};
 use seize_words::At;
+
+/// The index of a block among all numbers of a memory. As no block is seen that has more digits than these have, it is not asked for more.
+#[inline(always)]
+fn index_of(block: u64) -> u64
+    ensures { IsItsNumber block result }
+{
+    block.wrapping_sub(1) % MOST
+}
 
 impl<T, R: Rule<T>> Blocks<T, R> {
     /// Makes an operation on the word of a name.
@@ -194,6 +203,7 @@ impl<T, R: Rule<T>> Blocks<T, R> {
         requires { (self.now.words.id.least ≤ index) × (index < 2 ^ 32) }
         ensures door { IsBehind self.now.words.id.least index result.0 result.1 }
         ensures index { result.2 ≡ index - result.1 }
+        ensures half { result.1 + result.1 ≤ 2 ^ 32 }
     {
         let top = 63 - index.leading_zeros();
         let first = 1 << top;
@@ -233,14 +243,11 @@ impl<T, R: Rule<T>> Blocks<T, R> {
         ensures index { IsItsIndex result.strip.id block result.index × (result.index < 2 ^ 32) }
         ensures words { (result.first ≡ result.index * 5 + result.strip.id.skip) × (result.first + 4 < 2 ^ 60) }
     {
-        let index = block.wrapping_sub(1);
+        let index = index_of(block);
         if index <= self.last {
             return self.near_spot(index);
         }
-        if index >= MOST {
-            return self.near_spot(0);
-        }
-        self.far_spot_of(pass, guard, owner, block)
+        self.far_spot_of(pass, guard, owner, block, index)
     }
 
     /// The same, of a block whose number lies behind a door.
@@ -251,8 +258,9 @@ impl<T, R: Rule<T>> Blocks<T, R> {
         guard: &Seat<T, R>,
         owner: &Seat<T, R>,
         block: u64,
+        number: u64,
     ) -> Spot<T>
-        requires far { (self.now.words.id.least < block) × (block ≤ 2 ^ 32) }
+        requires far { (self.now.words.id.least ≤ number) × IsItsNumber block number }
         requires own { (pass.now.base ≡ self.now.words.id.views_name) × (guard.now.base ≡ self.now.words.id.views_name)
             × (owner.now.base ≡ self.now.words.id.views_name) }
         requires shown { VisibleToThree (R.holds self.now.words.fixed) pass.now.id pass.now.view guard.now.id guard.now.view owner.now.id owner.now.view block }
@@ -260,7 +268,7 @@ impl<T, R: Rule<T>> Blocks<T, R> {
         ensures index { IsItsIndex result.strip.id block result.index × (result.index < 2 ^ 32) }
         ensures words { (result.first ≡ result.index * 5 + result.strip.id.skip) × (result.first + 4 < 2 ^ 60) }
     {
-        let (door, first, index) = self.door_of(block - 1);
+        let (door, first, index) = self.door_of(number);
         let strip = self
             .words
             .find(pass, guard, owner, block, self.doors.at, door);

@@ -1,5 +1,5 @@
 -- How a block comes and goes: a number is claimed, its place taken out, a block published, taken away, and its number is free again. Assumes `Logic`.
-use Rattle.std.specs.Prelude.{slice_get, slice_set, bit_or, IsSome, replicate}
+use Rattle.std.specs.Prelude.{slice_get, slice_set, IsSome, replicate}
 use Rattle.std.proofs.Common.{◌≡◌, ◌⊎◌, ℕ, zero, suc, ◌+◌, ◌-◌, ◌*◌, ◌^◌, ◌<◌, ◌≤◌, List, [], ◌∷◌, length, refl, sym, ap, ◌∙◌, subst, arith, inl, inr, Option, Some, None, Ok}
 use seplogic.Ra.Ura.{Ura}
 use base.Fraction.{full_share}
@@ -135,13 +135,13 @@ module _ {M : Type 1} {𝓤 : Ura M} (𝓛 : Logic 𝓤) (R : RattleType) (own :
       use1 𝓛 (‵ (cell_of i c) ⊛ raw (all 𝓤 (Recells t i))) (Numbers.celled 𝓛 R p z lent had t.parts.words cs i c lt refl) $ split ! $
       by ! (then t sound c refl)))
 
-  -- ---- A NUMBER IS CLAIMED: bit 0 of its sign is set, and who has set it has the number
+  -- ---- A NUMBER IS CLAIMED: its sign is set, and who has set it has the number
   abbrev claimed : ℕ → ℕ → Fml
   claimed i n = claim_owns z.hands_name i n
 
   module _ (q : Share) (i e : ℕ) (lt : IsIts z i) (at : nth i * 40 + o + 32 ≡ e) where
     abbrev f : ℕ → ℕ
-    f n = bit_or n 1
+    f _ = 1
 
     abbrev Li : ℕ → Pr
     Li = Lies 𝓛 α q I b e f always (claimed i)

@@ -109,7 +109,7 @@ module _ {M : Type 1} {𝓤 : Ura M} (𝓛 : Logic 𝓤) (R : RattleType) (own :
 
   -- These are the words of the first strip. The views of three seats show the block, whose index is none of those that come before the strip of the j-th door.
   module _ (first : z.place ≡ 0) (whole : z.size ≡ z.least) (q : Share) (j e : ℕ) (few : j < 32) (at : e ≡ j * 8 + o) (h : ℕ) (d : V) (i : ℕ) (v : V) (k : ℕ) (u : V) (n : ℕ)
-      (shown : VisibleToThree holds h d i v k u n) (low : z.least * 2 ^ j ≤ n - 1) (r f f' : Share) where
+      (shown : VisibleToThree holds h d i v k u n) (low : 0 < n → z.least * 2 ^ j ≤ n - 1) (r f f' : Share) where
     abbrev pub Sn : Fml
     Sn = Hands.three 𝓛 R own cv holds p z i v k u h d r f f'
 
@@ -129,11 +129,11 @@ module _ {M : Type 1} {𝓤 : Ura M} (𝓛 : Logic 𝓤) (R : RattleType) (own :
     Dr s = door σ Is (right_to R) b e j s
 
     abbrev Has-cell : In → Type 0
-    Has-cell t = cell_at t.parts.cells (n - 1) ≡ Free → ⊥
+    Has-cell t = (0 < n) × (cell_at t.parts.cells (n - 1) ≡ Free → ⊥)
 
     has_cell : (t : In) → Makings.HasBlock 𝓛 R own cv holds keeps p z n t ⊎ Makings.HeldBlock 𝓛 R own cv holds keeps p z n t → Has-cell t
-    has_cell t (inl th) free = absurd (let c = th.2 in cc (c, free))
-    has_cell t (inr th) free = absurd (let c = th.4 in cc (c, free))
+    has_cell t (inl th) = (th.3, λ free. absurd (let c = th.2 in cc (c, free)))
+    has_cell t (inr th) = (th.5, λ free. absurd (let c = th.4 in cc (c, free)))
 
     -- there are too few numbers, if its strip is not there
     lacks : (t : In) (ss : List Strip) → AreStrips 0 ss (length t.parts.cells) → slice_get ss 0 ≡ Some (strip_of p z) → length (further ss) ≤ j
@@ -145,7 +145,7 @@ module _ {M : Type 1} {𝓤 : Ura M} (𝓛 : Logic 𝓤) (R : RattleType) (own :
         let total = grown 𝓛 R σ b z.least ss (0 + s.size) (length t.parts.cells) 0 are.1 all start in
         let none : length ss + 0 ≤ j = omega (arith, past) in
         let most : z.least * 2 ^ (length ss + 0) ≤ z.least * 2 ^ j = mul-le-mul_left z.least (pow-le-pow_right (lit< tt) none) in
-        let high = is_there t.parts.cells (n - 1) some in omega (arith, total, most, high, low)
+        let high = is_there t.parts.cells (n - 1) some.1 in let far = low some.0 in omega (arith, total, most, high, far)
 
     there : (ss : List Strip) (s : Strip) → slice_get (further ss) j ≡ Some s → ⟦ Drs ss ⟧ ∗ wand 𝓤 ⟦ Drs ss ⟧ ⟦ E ⟧ ∗ ⟦ Sn ⟧ ⊢ ex 𝓤 F
     there ss s has = let B : Pr = wand 𝓤 ⟦ Dr s ⟧ ⟦ Drs ss ⟧ in let St : Fml = stays σ (suc j) s in

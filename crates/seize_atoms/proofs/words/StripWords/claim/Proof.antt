@@ -1,4 +1,4 @@
--- `claim` sets a bit of a number's sign, and where it was free the number is claimed.
+-- `claim` sets a number's sign, and where it was free the number is claimed.
 use Rattle.seize_atoms.specs.Visiting.{HoldsSince, keeps_here, seat_coded}
 use Rattle.std.proofs.Common.{◌≡◌, ℕ, List, [], ◌∷◌, ◌+◌, ◌-◌, ◌*◌, ◌^◌, ◌<◌, sym, refl, ap, ◌∙◌, lit<, w64, arith}
 use mir.Syntax.{dcons, dnil, a_type, named}
@@ -34,7 +34,7 @@ use denote.Triple.Walked.{Stays, stay_dropped, walk_of, Goes-dropped}
 use Rattle.core.proofs.atomic.Steps.{tail}
 use Rattle.std.specs.contracts.marker.PhantomData as marker
 use Rattle.std.proofs.raw_atomic.Walks.{proved, leaves}
-use Rattle.std.proofs.raw_atomic.Calls.{fm, seq_cst, found, finds, ors}
+use Rattle.std.proofs.raw_atomic.Calls.{fm, seq_cst, found, finds, swaps}
 use Rattle.seize_seats.specs.Seats.Owned.{BaseId, IsPlaced, age, common, claim_owns, words_share}
 use Rattle.seize_seats.proofs.Seats.Views.Shown.{placed}
 use Rattle.seize_seats.proofs.Seats.Blocks.Makings.{claims}
@@ -105,7 +105,7 @@ claim_spec 𝓤 𝓛 𝓜 𝓡 wired X P U F LX LP LU LF g d _ =
     nothing ! $ move ! (4 ∷ 2 ∷ 0 ∷ []) $
     use3 𝓛 (raw (𝓣.C _ (vptr pb e ∷ vint w64 1 ∷ seq_cst ∷ []) (λ u. mean 𝓛 (found out u))))
     (via 𝓤 _ (claims 𝓛 K₀ kept_words cv holds keeps p z s j e asked.2 at)
-    (ors 𝓛 𝓜 𝓡 (code.calls-core::raw_atomic::fetch_or 𝓡.env wired) (block_ptr pb e) 1 (lit< tt) out)) $
+    (swaps 𝓛 𝓜 𝓡 (code.calls-core::raw_atomic::swap 𝓡.env wired) (block_ptr pb e) 1 (lit< tt) out)) $
     sets ! (agg ! (and_then ! (lit ! tt) (no_more !))) refl (tt, (record { fits = lit< tt }, tt)) $
     Calls-last ! (fm 𝓛 𝓜 𝓡) (found out) (and_then ! (get ! refl) (and_then ! (lit ! tt) (and_then ! (get ! refl) (no_more !)))) (λ u. finds ! out (λ n fits.
     lands_last ! refl (tt, record { fits = fits }) $ exec ! 𝓣.C 𝓣.Λ Ev (tail fn.body) (at_ret Ev Post) $

@@ -81,7 +81,7 @@ find_spec 𝓤 𝓛 𝓜 𝓡 wired X P U F LX LP LU LF g d _ =
     let others : Fml = fsep (flft κs.1.1.1.1.0 qs.1.1.1.1.0) (fsep (flft κs.1.1.1.1.1.0 qs.1.1.1.1.1.0) (fsep (flft κs.1.1.1.1.1.1.0 qs.1.1.1.1.1.1.0)
     (fsep (flft κs.1.1.1.1.1.1.1.0 qs.1.1.1.1.1.1.1.0) ftrue))) in
     let Asked : Type 0 = (r₁.base ≡ z.views_name) × (h.base ≡ z.views_name) × (k.base ≡ z.views_name) × (pd ≡ z.doors) × (j < 32) × (z.place ≡ 0) × (z.size ≡ z.least)
-    × (z.least * 2 ^ j ≤ nr - 1) × VisibleToThree rule r₁.id r₁.view h.id h.view k.id k.view nr in
+    × (0 < nr → z.least * 2 ^ j ≤ nr - 1) × VisibleToThree rule r₁.id r₁.view h.id h.view k.id k.view nr in
     let us : Ptr → List Val = λ r. vptr b o ∷ vptr b₁ o₁ ∷ vptr b₂ o₂ ∷ vptr b₃ o₃ ∷ vint w64 nr ∷ ptr_val r ∷ vint w64 j ∷ [] in
     let y : (walk_of 𝓛 En hs c).Ghost = ((κs, qs, bounds, a, (vptr b o ∷ [], (vptr b₁ o₁ ∷ [], (vptr b₂ o₂ ∷ [], (vptr b₃ o₃ ∷ [], (vint w64 nr ∷ [], (ptr_val pd ∷ [], (vint w64 j ∷ [], tt)))))))), gh) in
     let Post : Val → SProp 𝓤 = (walk_of 𝓛 En hs c).post y in let Run : List Val → SProp 𝓤 = λ ws. WpFn 𝓤 H 𝓣.C 𝓣.Λ fn ws Post in
