@@ -1,14 +1,11 @@
-//! Makes each call on a map and a set that threads share that asks for memory, also of JSON. Where it is refused, nothing has changed, and it is made again, and done then. This
-//! program is to be run once for each request for memory, with that one refused: each time it prints the same.
-#![tactic(auto)]
-
+//! Each call on a map and a set that threads share that asks for memory, also of JSON: where it is refused, nothing has changed, and it is made again, and done then.
+use crate::{Hashing, Map, Set, Told};
 use papaya_json::{
     Attempt, Fault, FromJson, HashMap, HashSet, IdSource, JsonFault, Operation, ResizeMode,
     Session, SetSession, ToJson,
 };
 use serde_json::Value;
 use std::alloc::Global;
-use std::hash::{BuildHasherDefault, DefaultHasher};
 use std::io;
 use std::sync::Wait;
 
@@ -18,12 +15,10 @@ const KEYS: u64 = 200;
 /// How many sessions there are at once: more than the first bucket has slots.
 const SESSIONS: u64 = 40;
 
-type Hashing = BuildHasherDefault<DefaultHasher>;
-
-type Map = HashMap<u64, u64, Hashing>;
+type Own<'m> = Session<'m, u64, u64, Hashing>;
 
 /// A map.
-fn made(alloc: Global) -> Result<Map, Fault> {
+fn made(alloc: Global) -> Told<Map> {
     let mut ids = IdSource::new();
     match HashMap::with_hasher(alloc, &mut ids, Hashing::default()) {
         Err(Fault::Memory) => HashMap::with_hasher(alloc, &mut ids, Hashing::default()),
@@ -32,7 +27,7 @@ fn made(alloc: Global) -> Result<Map, Fault> {
 }
 
 /// The first session on a map.
-fn begun<'m>(map: &'m Map) -> Result<Session<'m, u64, u64, Hashing>, Fault> {
+fn begun<'m>(map: &'m Map) -> Told<Own<'m>> {
     match map.session() {
         Err(Fault::Memory) => map.session(),
         answer => answer,
@@ -40,7 +35,7 @@ fn begun<'m>(map: &'m Map) -> Result<Session<'m, u64, u64, Hashing>, Fault> {
 }
 
 /// The first section of a registration.
-fn entered<'m>(map: &'m Map) -> Result<Session<'m, u64, u64, Hashing>, Fault> {
+fn entered<'m>(map: &'m Map) -> Told<Own<'m>> {
     let registration = match map.register() {
         Err(Fault::Memory) => map.register()?,
         answer => answer?,
@@ -49,9 +44,7 @@ fn entered<'m>(map: &'m Map) -> Result<Session<'m, u64, u64, Hashing>, Fault> {
 }
 
 /// One session more.
-fn another<'m>(
-    session: &Session<'m, u64, u64, Hashing>,
-) -> Result<Session<'m, u64, u64, Hashing>, Fault> {
+fn another<'m>(session: &Own<'m>) -> Told<Own<'m>> {
     match session.another() {
         Err(Fault::Memory) => session.another(),
         answer => answer,
@@ -61,7 +54,7 @@ fn another<'m>(
 /// Stores a key with this value, where it had that one before, or none; tells whether it is there then. Where it came back, what was there was there still.
 fn stores<R: Wait>(
     rt: &R,
-    session: &mut Session<'_, u64, u64, Hashing>,
+    session: &mut Own<'_>,
     key: u64,
     before: Option<u64>,
     value: u64,
@@ -80,12 +73,7 @@ fn stores<R: Wait>(
 }
 
 /// Stores a key, which is there already, where it is missing; tells whether it comes back, and what was there is there still.
-fn tries<R: Wait>(
-    rt: &R,
-    session: &mut Session<'_, u64, u64, Hashing>,
-    key: u64,
-    there: u64,
-) -> bool {
+fn tries<R: Wait>(rt: &R, session: &mut Own<'_>, key: u64, there: u64) -> bool {
     let came = match session.try_insert(rt, key, 0) {
         Ok((_, Attempt::Stored)) => false,
         Ok((_, Attempt::Present(back, value))) => back == key && value == 0,
@@ -101,7 +89,7 @@ fn tries<R: Wait>(
 }
 
 /// Removes a key, which is there, and tells whether it is gone then. Where that was refused, it was there still.
-fn removes<R: Wait>(rt: &R, session: &mut Session<'_, u64, u64, Hashing>, key: u64) -> bool {
+fn removes<R: Wait>(rt: &R, session: &mut Own<'_>, key: u64) -> bool {
     let removed = match session.remove(rt, &key) {
         Ok(removed) => removed.is_some(),
         Err(fault) => {
@@ -113,7 +101,7 @@ fn removes<R: Wait>(rt: &R, session: &mut Session<'_, u64, u64, Hashing>, key: u
 }
 
 /// Stores all keys, each with its double, and then each with itself, tries to store each once more, and removes each; tells whether each time all was as it should be.
-fn all<R: Wait>(rt: &R, alloc: Global) -> Result<bool, Fault> {
+fn all<R: Wait>(rt: &R, alloc: Global) -> Told<bool> {
     let map = made(alloc)?;
     let mut session = begun(&map)?;
     let mut are_there = true;
@@ -133,7 +121,7 @@ fn all<R: Wait>(rt: &R, alloc: Global) -> Result<bool, Fault> {
 }
 
 /// A map that was built, with room for some pairs.
-fn built(alloc: Global) -> Result<Map, Fault> {
+fn built(alloc: Global) -> Told<Map> {
     let mut ids = IdSource::new();
     let first = HashMap::builder(Hashing::default())
         .capacity(100)
@@ -151,12 +139,7 @@ fn built(alloc: Global) -> Result<Map, Fault> {
 }
 
 /// Stores a value that is made at a key that is missing; tells whether it is there then. Where that was refused, none was there.
-fn makes<R: Wait>(
-    rt: &R,
-    session: &mut Session<'_, u64, u64, Hashing>,
-    key: u64,
-    value: u64,
-) -> bool {
+fn makes<R: Wait>(rt: &R, session: &mut Own<'_>, key: u64, value: u64) -> bool {
     let stored = match session.try_insert_with(rt, key, || value) {
         Ok((_, stored)) => stored,
         Err(fault) => {
@@ -168,12 +151,7 @@ fn makes<R: Wait>(
 }
 
 /// Removes the pair of a key, which has this value, by a test; tells whether it is gone then. Where that was refused, it was there still.
-fn tests<R: Wait>(
-    rt: &R,
-    session: &mut Session<'_, u64, u64, Hashing>,
-    key: u64,
-    value: u64,
-) -> bool {
+fn tests<R: Wait>(rt: &R, session: &mut Own<'_>, key: u64, value: u64) -> bool {
     let removed = match session.remove_if(rt, &key, |_, there| *there == value) {
         Ok(taken) => taken.is_some(),
         Err(fault) => {
@@ -189,11 +167,7 @@ fn tests<R: Wait>(
 }
 
 /// Lists the keys and the values, and tells whether as many were listed as there are.
-fn lists<R: Wait>(
-    rt: &R,
-    alloc: Global,
-    session: &mut Session<'_, u64, u64, Hashing>,
-) -> Result<bool, Fault> {
+fn lists<R: Wait>(rt: &R, alloc: Global, session: &mut Own<'_>) -> Told<bool> {
     let keys = match session.keys(rt, alloc) {
         Err(Fault::Memory) => session.keys(rt, alloc)?,
         answer => answer?,
@@ -206,7 +180,7 @@ fn lists<R: Wait>(
 }
 
 /// Makes the values of all keys in a map that was built, and removes each; tells whether each time all was as it should be.
-fn asks<R: Wait>(rt: &R, alloc: Global) -> Result<bool, Fault> {
+fn asks<R: Wait>(rt: &R, alloc: Global) -> Told<bool> {
     let map = built(alloc)?;
     let mut session = begun(&map)?;
     let mut are_there = true;
@@ -223,11 +197,7 @@ fn asks<R: Wait>(rt: &R, alloc: Global) -> Result<bool, Fault> {
 }
 
 /// So many sessions more, each of which is there as long as the later ones are; tells whether each finds what the first one has stored.
-fn follow<R: Wait>(
-    rt: &R,
-    session: &Session<'_, u64, u64, Hashing>,
-    left: u64,
-) -> Result<bool, Fault> {
+fn follow<R: Wait>(rt: &R, session: &Own<'_>, left: u64) -> Told<bool> {
     if left == 0 {
         return Ok(true);
     }
@@ -237,7 +207,7 @@ fn follow<R: Wait>(
 }
 
 /// Begins sessions, all of which are there at once, and tells whether each finds what the first one has stored.
-fn sessions<R: Wait>(rt: &R, alloc: Global) -> Result<bool, Fault> {
+fn sessions<R: Wait>(rt: &R, alloc: Global) -> Told<bool> {
     let map = made(alloc)?;
     let mut first = begun(&map)?;
     let stored = stores(rt, &mut first, 1, None, 2);
@@ -267,7 +237,7 @@ fn many(done: [bool; 4]) -> u64 {
 }
 
 /// Adds one to the count of a key, by each call that stores what is made of what is there; tells whether it has come to as many as were not refused, which are all but one at least.
-fn counts<R: Wait>(rt: &R, session: &mut Session<'_, u64, u64, Hashing>, key: u64) -> bool {
+fn counts<R: Wait>(rt: &R, session: &mut Own<'_>, key: u64) -> bool {
     let put = session.update_or_insert(rt, &key, more, &1).is_ok();
     let with = session.update_or_insert_with(rt, &key, more, || 1).is_ok();
     let updated = matches!(session.update(rt, &key, more), Ok(Some(_)));
@@ -277,7 +247,7 @@ fn counts<R: Wait>(rt: &R, session: &mut Session<'_, u64, u64, Hashing>, key: u6
 }
 
 /// Lets a key settle on a value, twice, and takes its pair out, twice; tells whether it was done each time but once.
-fn settles<R: Wait>(rt: &R, session: &mut Session<'_, u64, u64, Hashing>, key: u64) -> bool {
+fn settles<R: Wait>(rt: &R, session: &mut Own<'_>, key: u64) -> bool {
     let first = session.get_or_insert(rt, key, 7).is_ok();
     let again = session.get_or_insert_with(rt, key, || 7).is_ok();
     let there = session.get(rt, &key).copied() == Some(7);
@@ -287,7 +257,7 @@ fn settles<R: Wait>(rt: &R, session: &mut Session<'_, u64, u64, Hashing>, key: u
 }
 
 /// Makes each call on the whole map twice; tells whether it was done one time at least, and what there is then.
-fn goes_over<R: Wait>(rt: &R, session: &mut Session<'_, u64, u64, Hashing>) -> bool {
+fn goes_over<R: Wait>(rt: &R, session: &mut Own<'_>) -> bool {
     let (room, more) = (
         session.reserve(rt, 2_000).is_ok(),
         session.reserve(rt, 2_000).is_ok(),
@@ -310,7 +280,7 @@ fn goes_over<R: Wait>(rt: &R, session: &mut Session<'_, u64, u64, Hashing>) -> b
 }
 
 /// Counts each key up, lets each settle, and goes over all then; tells whether each time all was as it should be.
-fn changes<R: Wait>(rt: &R, alloc: Global) -> Result<bool, Fault> {
+fn changes<R: Wait>(rt: &R, alloc: Global) -> Told<bool> {
     let map = made(alloc)?;
     let mut session = begun(&map)?;
     let mut are_there = true;
@@ -335,7 +305,7 @@ fn puts<R: Wait>(rt: &R, session: &mut SetSession<'_, u64, Hashing>, key: u64) -
 }
 
 /// Puts all keys into a set.
-fn fills<R: Wait>(rt: &R, set: &HashSet<u64, Hashing>) -> Result<bool, Fault> {
+fn fills<R: Wait>(rt: &R, set: &Set) -> Told<bool> {
     let session = match set.session() {
         Err(Fault::Memory) => set.session(),
         answer => answer,
@@ -349,7 +319,7 @@ fn fills<R: Wait>(rt: &R, set: &HashSet<u64, Hashing>) -> Result<bool, Fault> {
 }
 
 /// A clone of a map.
-fn cloned<R: Wait>(rt: &R, alloc: Global, map: &Map) -> Result<Map, Fault> {
+fn cloned<R: Wait>(rt: &R, alloc: Global, map: &Map) -> Told<Map> {
     let mut ids = IdSource::new();
     match map.clone(rt, alloc, &mut ids) {
         Err(Fault::Memory) => map.clone(rt, alloc, &mut ids),
@@ -358,11 +328,7 @@ fn cloned<R: Wait>(rt: &R, alloc: Global, map: &Map) -> Result<Map, Fault> {
 }
 
 /// Tells whether two maps are the same.
-fn are_same<R: Wait>(
-    rt: &R,
-    one: &mut Session<'_, u64, u64, Hashing>,
-    other: &mut Session<'_, u64, u64, Hashing>,
-) -> Result<bool, Fault> {
+fn are_same<R: Wait>(rt: &R, one: &mut Own<'_>, other: &mut Own<'_>) -> Told<bool> {
     match one.same(rt, other) {
         Err(Fault::Memory) => one.same(rt, other),
         answer => answer,
@@ -370,7 +336,7 @@ fn are_same<R: Wait>(
 }
 
 /// Clones a map of all keys, and tells whether the clone is the same until one more is stored there.
-fn copies<R: Wait>(rt: &R, alloc: Global) -> Result<bool, Fault> {
+fn copies<R: Wait>(rt: &R, alloc: Global) -> Told<bool> {
     let map = made(alloc)?;
     let mut session = entered(&map)?;
     let mut are_there = true;
@@ -385,11 +351,7 @@ fn copies<R: Wait>(rt: &R, alloc: Global) -> Result<bool, Fault> {
 }
 
 /// A map, as JSON.
-fn written<R: Wait>(
-    rt: &R,
-    alloc: Global,
-    session: &mut Session<'_, u64, u64, Hashing>,
-) -> Result<Value, Fault> {
+fn written<R: Wait>(rt: &R, alloc: Global, session: &mut Own<'_>) -> Told<Value> {
     match session.to_value(rt, alloc) {
         Err(Fault::Memory) => session.to_value(rt, alloc),
         answer => answer,
@@ -423,7 +385,7 @@ fn reads<R: Wait>(rt: &R, alloc: Global) -> Result<bool, JsonFault> {
 }
 
 /// Makes a set, and puts all keys into it.
-fn elements<R: Wait>(rt: &R, alloc: Global) -> Result<bool, Fault> {
+fn elements<R: Wait>(rt: &R, alloc: Global) -> Told<bool> {
     let mut ids = IdSource::new();
     let set = match HashSet::with_hasher(alloc, &mut ids, Hashing::default()) {
         Err(Fault::Memory) => HashSet::with_hasher(alloc, &mut ids, Hashing::default()),
@@ -432,16 +394,17 @@ fn elements<R: Wait>(rt: &R, alloc: Global) -> Result<bool, Fault> {
     fills(rt, &set?)
 }
 
-fn main(rt: HostRuntime) -> io::Result<()> {
-    println!(rt; "all keys: {}", all(&rt, rt.alloc())?)?;
-    println!(rt; "all that is asked for: {}", asks(&rt, rt.alloc())?)?;
-    println!(rt; "all sessions: {}", sessions(&rt, rt.alloc())?)?;
+/// Prints whether each is so, a line for calls of one kind.
+pub(crate) fn calls<R: Wait + Print>(rt: &R, alloc: Global) -> io::Result<()> {
+    println!(rt; "all keys: {}", all(rt, alloc)?)?;
+    println!(rt; "all that is asked for: {}", asks(rt, alloc)?)?;
+    println!(rt; "all sessions: {}", sessions(rt, alloc)?)?;
     println!(rt;
         "all that is made of what is there: {}",
-        changes(&rt, rt.alloc())?
+        changes(rt, alloc)?
     )?;
-    println!(rt; "all copies: {}", copies(&rt, rt.alloc())?)?;
-    println!(rt; "all elements: {}", elements(&rt, rt.alloc())?)?;
-    let read = reads(&rt, rt.alloc()).map_err(|_| io::Error::other("no map was read"))?;
+    println!(rt; "all copies: {}", copies(rt, alloc)?)?;
+    println!(rt; "all elements: {}", elements(rt, alloc)?)?;
+    let read = reads(rt, alloc).map_err(|_| io::Error::other("no map was read"))?;
     println!(rt; "all JSON: {read}")
 }
