@@ -1,15 +1,18 @@
 //! Four threads store, remove and refresh in one run, each by a driver of a crew; then what is left at its end is printed.
-#![tactic(auto)]
-
 ghost use Rattle.std.specs.Prelude.{◌≡◌};
 
-use papaya_steps::*;
+use papaya_steps::{
+    Call, Crew, CrewName, CrewOf, Driver, Event, Fault, KeyHash, OneKey, Outcome, ResizeMode, Run,
+    Runner, Setup, Token,
+};
+use std::alloc::Global;
+use std::io;
 use std::sync::Wait;
 use std::sync::ledger::Blank;
 use std::thread::{Threads, for_each_mut};
 
 /// What a driver does at this place, under a guard of its own and on keys of its own. The first driver to come makes the map.
-fn event(alloc: std::alloc::Global, number: u64, place: u64) -> Result<Event<u64, u64>, Fault> {
+fn event(alloc: Global, number: u64, place: u64) -> Result<Event<u64, u64>, Fault> {
     let guard = Token::copy_of(alloc, &[b'a' + (number % 4) as u8])?;
     let map = Token::copy_of(alloc, b"m")?;
     let key = number % 4 * 100 + place / 4;
@@ -34,7 +37,7 @@ fn event(alloc: std::alloc::Global, number: u64, place: u64) -> Result<Event<u64
 /// Each driver does its part, on a thread of its own.
 fn drive<R: Runner<Event<u64, u64>, Outcome = Outcome<u64>> + Send, N: CrewName + Send + Sync>(
     rt: &(impl Threads + Wait + Sync),
-    alloc: std::alloc::Global,
+    alloc: Global,
     crew: &CrewOf<Event<u64, u64>, R, N>,
     drivers: &mut [Driver<u64, u64, N>],
 ) {
@@ -51,7 +54,7 @@ fn drive<R: Runner<Event<u64, u64>, Outcome = Outcome<u64>> + Send, N: CrewName 
 /// The run to which four drivers apply their events.
 fn by_four<N: CrewName + Send + Sync>(
     rt: &(impl Threads + Wait + Sync),
-    alloc: std::alloc::Global,
+    alloc: Global,
     blank: Blank,
 ) -> Result<Option<Run<u64, u64>>, Fault>
     requires { (N.setup ≡ record { batch_size = 1; processors = 4; roots = 1 }) × (blank.name ≡ N.name) × (blank.parts ≡ N.parts) × (blank.parts ≡ 4) }
@@ -67,9 +70,10 @@ fn by_four<N: CrewName + Send + Sync>(
     Ok(crew.finish(alloc, drivers)?.map(|done| done.run))
 }
 
-fn main(rt: HostRuntime) -> std::io::Result<()> {
-    let mut pairs = Vec::new(rt.alloc());
-    if let Ok(Some(run)) = by_four::<std::marker::Brand>(&rt, rt.alloc(), Blank::new(4)) {
+/// Four drivers apply their events to one run, and it is told what is left.
+pub(crate) fn run<R: Threads + Wait + Sync + Print>(rt: &R, alloc: Global) -> io::Result<()> {
+    let mut pairs = Vec::new(alloc);
+    if let Ok(Some(run)) = by_four::<std::marker::Brand>(rt, alloc, Blank::new(4)) {
         for pair in run.kept.as_slice() {
             pairs.push((pair.key, pair.value))?;
         }
