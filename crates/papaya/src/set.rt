@@ -1,5 +1,5 @@
 //! A hash set that threads share, as one has it who owns it.
-ghost use Rattle.std.specs.Prelude.{◌≡◌, [], IfOk};
+ghost use Rattle.std.specs.Prelude.{◌≡◌, [], true, IfOk};
 ghost use Rattle.papaya_map.specs.Given.ReclaimsPromises.{IsReclaimed};
 ghost use Rattle.papaya_map.specs.Given.ReclaimsRule.{freed};
 
@@ -59,14 +59,16 @@ impl<K: Eq + Hash + Drop, S: Hashes<K>> HashSet<K, S> {
     }
 
     /// Reclaims all that waits in the set, as `HashMap::reclaim_all` does. Elements of the set stay.
-    pub fn reclaim_all(&mut self)
+    pub fn reclaim_all(&mut self) -> bool
+        ensures owns { result ≡ true }
         ensures collector { self.new.map.collector ≡ self.old.map.collector }
         ensures hasher { self.new.map.hasher ≡ self.old.map.hasher }
         ensures setting { self.new.map.setting ≡ self.old.map.setting }
+        ensures words { self.new.map.home.blocks.words.words ≡ self.old.map.home.blocks.words.words }
         ensures fixed { self.new.map.home.blocks.words.fixed ≡ self.old.map.home.blocks.words.fixed }
         ensures knows { self.new.map.seat.view ≡ freed self.old.map.seat.view }
         ensures empty { IsReclaimed K.eq S.hash self.new.map.home.blocks.words.fixed self.new.map.home.blocks.words.start }
     {
-        self.map.reclaim_all();
+        self.map.reclaim_all()
     }
 }

@@ -1,5 +1,5 @@
 //! The end of all that waits in a map, while nobody else has it.
-ghost use Rattle.std.specs.Prelude.{◌≡◌};
+ghost use Rattle.std.specs.Prelude.{◌≡◌, true};
 ghost use Rattle.threads_reclaims.specs.Reclaims.Promises.{IsReclaimed};
 ghost use Rattle.threads_reclaims.specs.Reclaims.Rule.{freed};
 
@@ -15,7 +15,10 @@ fn reclaimed<K: Eq + Hash + Drop, V: Drop, S: Hashes<K>>(
     map: HashMap<K, V, S>,
     (): (),
 ) -> (HashMap<K, V, S>, ())
-    ensures same { result.0 ≡ record map { home = result.0.home; seat = result.0.seat } }
+    ensures collector { result.0.collector ≡ map.collector }
+    ensures hasher { result.0.hasher ≡ map.hasher }
+    ensures setting { result.0.setting ≡ map.setting }
+    ensures words { result.0.home.blocks.words.words ≡ map.home.blocks.words.words }
     ensures fixed { result.0.home.blocks.words.fixed ≡ map.home.blocks.words.fixed }
     ensures knows { result.0.seat.view ≡ freed map.seat.view }
     ensures empty { IsReclaimed K.eq S.hash result.0.home.blocks.words.fixed result.0.home.blocks.words.start }
@@ -46,16 +49,20 @@ fn reclaimed<K: Eq + Hash + Drop, V: Drop, S: Hashes<K>>(
 }
 
 impl<K: Eq + Hash + Drop, V: Drop, S: Hashes<K>> HashMap<K, V, S> {
-    /// Reclaims all that waits in the map: nobody else has it meanwhile. A slot that a session has kept which was forgotten is free then, and each pair that was removed or
-    /// replaced, and each table that was left, is dropped. Pairs of the map stay. It is refused nothing.
-    pub fn reclaim_all(&mut self)
+    /// Reclaims all that waits in the map: nobody else has it meanwhile. A slot that a session has kept which was forgotten is free then, and each pair that
+    /// was removed or replaced, and each table that was left, is dropped. Pairs of the map stay. A pass that was made before serves no session that begins
+    /// then. It is refused nothing, and answers whether the map owns its collector, as each does.
+    pub fn reclaim_all(&mut self) -> bool
+        ensures owns { result ≡ true }
         ensures collector { self.new.collector ≡ self.old.collector }
         ensures hasher { self.new.hasher ≡ self.old.hasher }
         ensures setting { self.new.setting ≡ self.old.setting }
+        ensures words { self.new.home.blocks.words.words ≡ self.old.home.blocks.words.words }
         ensures fixed { self.new.home.blocks.words.fixed ≡ self.old.home.blocks.words.fixed }
         ensures knows { self.new.seat.view ≡ freed self.old.seat.view }
         ensures empty { IsReclaimed K.eq S.hash self.new.home.blocks.words.fixed self.new.home.blocks.words.start }
     {
-        replace_with(self, (), reclaimed)
+        replace_with(self, (), reclaimed);
+        true
     }
 }

@@ -104,9 +104,9 @@ pub(crate) fn empties<R: Wait>(rt: &R, made: Told<Set>) -> Told<bool> {
     let mut session = set.session()?;
     let stored = session.insert(rt, 1)? && session.insert(rt, 2)? && session.remove(rt, &1)?;
     drop(session);
-    set.reclaim_all();
+    let owned = set.reclaim_all();
     let mut next = set.session()?;
-    Ok(stored && next.insert(rt, 1)? && next.contains(rt, &2) && next.len() == 2)
+    Ok(stored && owned && next.insert(rt, 1)? && next.contains(rt, &2) && next.len() == 2)
 }
 
 /// Whether calls on a set refuse a guard and a pass that are of another one.

@@ -63,9 +63,7 @@ fn takes<K: Eq + Hash, V, Q: Equivalent<K>, S: Hashes<K>>(
     ahead.removes(hasher, setting, hash, key)
 }
 
-/// Takes the steps of the seat's call from where its code stands on. It is a call of its own: where straight code goes all the way, there is no machine.
-#[cold]
-#[inline(never)]
+/// Takes the steps of the seat's call from where its code stands on.
 fn goes_on<R: Wait, K: Eq + Hash + Drop, V: Drop, Q: Equivalent<K>, S: Hashes<K>>(
     rt: &R,
     sleepers: &Sleepers,

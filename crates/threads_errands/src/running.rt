@@ -104,7 +104,8 @@ fn steps<K: Eq + Hash + Drop, V: Drop, Q: Equivalent<K>, S: Hashes<K>>(
     (told, next)
 }
 
-/// Runs the seat's call until it has ended. This pair has come back by then, if one has.
+/// Runs the seat's call until it has ended. This pair has come back by then, if one has. It is a call of its own: straight code seldom comes to it.
+#[inline(never)]
 pub(crate) fn runs<R: Wait, K: Eq + Hash + Drop, V: Drop, Q: Equivalent<K>, S: Hashes<K>>(
     rt: &R,
     sleepers: &Sleepers,

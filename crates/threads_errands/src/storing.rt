@@ -102,9 +102,7 @@ fn runs_on<R: Wait, K: Eq + Hash + Drop, V: Drop, S: Hashes<K>>(
     )
 }
 
-/// Takes the steps of the seat's call from where its code stands on. It is a call of its own: where straight code goes all the way, there is no machine.
-#[cold]
-#[inline(never)]
+/// Takes the steps of the seat's call from where its code stands on.
 fn goes_on<R: Wait, K: Eq + Hash + Drop, V: Drop, S: Hashes<K>>(
     rt: &R,
     sleepers: &Sleepers,
@@ -177,8 +175,6 @@ fn refused_of<K, V>(setting: Setting, hash: u64, there: There) -> KeyCall<K, V, 
 }
 
 /// Ends the seat's call, whose pair has come back.
-#[cold]
-#[inline(never)]
 fn gives_back<R: Wait, K: Eq + Hash + Drop, V: Drop, S: Hashes<K>>(
     rt: &R,
     sleepers: &Sleepers,

@@ -33,10 +33,7 @@ pub fn sees<K: Eq + Hash, V, S: Hashes<K>, Q: Equivalent<K>>(
     within.sees(root, mode, hash, key)
 }
 
-/// Takes the steps of the seat's lookup from this point on, until it has ended, and answers the word that names the pair found. It is a call of its own: where straight code
-/// goes all the way nothing of the errand lies in memory.
-#[cold]
-#[inline(never)]
+/// Takes the steps of the seat's lookup from this point on, until it has ended, and answers the word that names the pair found.
 pub fn goes_on<R: Wait, K: Eq + Hash, V, S: Hashes<K>, Q: Equivalent<K>>(
     rt: &R,
     blocks: &Blocks<Node<K, V>, OfMaps<S>>,
