@@ -4,7 +4,6 @@
 
 mod building;
 mod keys;
-mod passing;
 mod rows;
 mod sets;
 mod whole;
@@ -59,8 +58,8 @@ fn with(bits: u64, next: bool) -> u64 {
     u64::wrapping_add(u64::wrapping_mul(bits, 2), u64::from(next))
 }
 
-/// Prints what is so of maps and sets of this mode, and answers whether all is.
-fn of_mode<R: Threads + Wait + Clock + Sync + Print>(
+/// Prints what is so of maps of this mode, and answers whether all is.
+fn of_maps<R: Threads + Wait + Clock + Sync + Print>(
     rt: &R,
     alloc: Global,
     mode: ResizeMode,
@@ -77,10 +76,18 @@ fn of_mode<R: Threads + Wait + Clock + Sync + Print>(
     let is_so = whole::meet(rt, made(alloc, mode));
     all = tells(rt, "two walks show what stays, and meet", is_so)? && all;
     let is_so = whole::clears(rt, made(alloc, mode));
-    all = tells(rt, "pairs are counted and cleared while others come", is_so)? && all;
-    let is_so = passing::follow(rt, made(alloc, mode));
-    all = tells(rt, "two passes meet while values are replaced", is_so)? && all;
-    let is_so = passing::settle(rt, made(alloc, mode));
+    Ok(tells(rt, "pairs are counted and cleared while others come", is_so)? && all)
+}
+
+/// Prints what is so of passes over maps of this mode, of what they lend, and of sets, and answers whether all is.
+fn of_sets<R: Threads + Wait + Clock + Sync + Print>(
+    rt: &R,
+    alloc: Global,
+    mode: ResizeMode,
+) -> io::Result<bool> {
+    let is_so = whole::follow(rt, made(alloc, mode));
+    let mut all = tells(rt, "two passes meet while values are replaced", is_so)?;
+    let is_so = whole::settle(rt, made(alloc, mode));
     all = tells(rt, "two are lent the value on which they settle", is_so)? && all;
     let is_so = sets::change(rt, sets::built(alloc, mode));
     all = tells(rt, "of two calls on an element one comes first", is_so)? && all;
@@ -103,20 +110,16 @@ fn of_any<R: Threads + Wait + RandomSource + Sync + Print>(
     all = tells(rt, "what sessions have stored stays", is_so)? && all;
     let is_so = building::copies(rt, alloc);
     all = tells(rt, "a clone is the same until one changes", is_so)? && all;
-    Ok(
-        tells(
-            rt,
-            "a set refuses what is of another one",
-            sets::foreign(rt, alloc),
-        )? && all,
-    )
+    let is_so = sets::foreign(rt, alloc);
+    Ok(tells(rt, "a set refuses what is of another one", is_so)? && all)
 }
 
 fn main(rt: HostRuntime) -> io::Result<()> {
     let alloc = rt.alloc();
     let mut is_so = of_any(&rt, alloc)?;
     for mode in MODES {
-        is_so = of_mode(&rt, alloc, mode)? && is_so;
+        is_so = of_maps(&rt, alloc, mode)? && is_so;
+        is_so = of_sets(&rt, alloc, mode)? && is_so;
     }
     for line in rt.lines(alloc) {
         is_so = rows::holds(&rt, alloc, line?.as_str())? && is_so;
