@@ -1,10 +1,9 @@
 -- The state as seats knew it, where one of them comes to know something else.
-use Rattle.std.specs.Prelude.{◌≢◌, ◌⊎◌, List, Some, slice_get, slice_set, map}
+use Rattle.std.specs.Prelude.{◌≢◌, ◌⊎◌, List, Some, slice_get, slice_set, map, option_map}
 use Rattle.std.proofs.Common.{◌≡◌, ℕ, inl, inr, refl, sym, subst, ap, ◌∙◌}
 use Rattle.std.proofs.lemmas.Bool.{cases_eq}
 use Rattle.std.proofs.lemmas.List.{map-set}
 use Rattle.std.proofs.lemmas.Option.{slice_get-map}
-use Rattle.core.specs.Option.{option_map}
 use Rattle.seize_words.specs.OneMemory.Mem.{Mem}
 use Rattle.map_tables.specs.declared.node.Node.{Node}
 use Rattle.seize_seats.specs.Seats.State.{State, view_of, after}

@@ -1,5 +1,5 @@
 -- While the one that acts reclaims all each of its steps is one of the list.
-use Rattle.std.specs.Prelude.{◌≢◌, ◌++◌, ◌==◌, Option, Some, None, slice_get, slice_set, map, if◌then◌else◌}
+use Rattle.std.specs.Prelude.{◌≢◌, ◌++◌, ◌==◌, Option, Some, None, slice_get, slice_set, map, if◌then◌else◌, option_map}
 use Rattle.std.specs.Option.{is_none}
 use Rattle.std.proofs.Common.{◌≡◌, ℕ, suc, zero, ◌+◌, ◌<◌, ◌^◌, Bool, List, [], ◌∷◌, inr, refl, sym, subst, ap, ◌∙◌, arith}
 use Rattle.std.proofs.lemmas.Bool.{eq-eqb}
@@ -36,7 +36,6 @@ use Rattle.seize_reclaims.proofs.Empties.Steps.{once_at}
 use Rattle.seize_reclaims.proofs.Renews.Looks.{may_end}
 use Rattle.many_acts.specs.Given.ReclaimsReclaims.{ReclaimingAt, AllIsReclaimed}
 use Rattle.std.proofs.lemmas.Option.{slice_get-map}
-use Rattle.core.specs.Option.{option_map}
 use Rattle.seize.specs.declared.rows.reclaim_all.Reclaiming.{Reclaiming as Point}
 use Rattle.seize_seats.proofs.Seats.Stepping.Errands.{mapped_at}
 use Rattle.seize_views.specs.Views.Rows.{use_of}
