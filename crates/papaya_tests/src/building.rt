@@ -19,15 +19,13 @@ pub(crate) fn reasons(alloc: Global, one: RandomState, other: RandomState) -> To
     let is_many = matches!(many, Err(Fault::Capacity));
     let builder = Map::builder(Hashing::default()).resize_mode(ResizeMode::Incremental(0));
     let zero = builder.capacity(u64::MAX).build(alloc, &mut ids);
+    let with = Map::with_capacity_and_hasher(alloc, &mut ids, u64::MAX / 8 + 1, Hashing::default());
     let so = [
         is_shown && is_many,
         matches!(zero, Err(Fault::ZeroChunk)),
-        matches!(
-            sized(alloc, &mut ids, u64::MAX / 8 + 1),
-            Err(Fault::Capacity)
-        ),
+        matches!(with, Err(Fault::Capacity)),
         HashMap::<u64, u64>::with_capacity(alloc, &mut ids, 100, one).is_ok(),
-        sized(alloc, &mut ids, 100).is_ok(),
+        Map::with_capacity_and_hasher(alloc, &mut ids, 100, Hashing::default()).is_ok(),
         matches!(
             Map::with_hasher(alloc, &mut ids, Hashing::default()),
             Err(Fault::CollectorsUsedUp)
@@ -38,11 +36,6 @@ pub(crate) fn reasons(alloc: Global, one: RandomState, other: RandomState) -> To
         ),
     ];
     Ok(so == [true; 7])
-}
-
-/// A map with room for so many pairs.
-fn sized(alloc: Global, ids: &mut IdSource, capacity: u64) -> Told<Map> {
-    Map::with_capacity_and_hasher(alloc, ids, capacity, Hashing::default())
 }
 
 /// A map of this mode, which was built with all that can be chosen: also of batches of one block, and two shards.

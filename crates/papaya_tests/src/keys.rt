@@ -15,14 +15,12 @@ const TURNS: u64 = 1_000;
 /// What a thread does, and what it tells of that.
 #[derive(Clone, Copy)]
 pub(crate) enum Work {
-    /// Stores each key with this value: which of them have replaced a pair, a bit for each.
+    /// At each key, a bit for each: whether a pair was replaced, was missing and is stored, was there and is gone, was there and is more.
     Stores(u64),
-    /// Stores each key with this value where it is missing: which of them were.
     Tries(u64),
-    /// Removes each key: which of them were there.
     Removes,
-    /// Adds one to the value of each key: which of them were there.
     Adds,
+    /// In turn, so often; or what the function of this name does.
     Counts(u64),
     Settles(u64),
     Reserves,
@@ -32,17 +30,17 @@ pub(crate) enum Work {
     Clears,
 }
 
-/// Does it, in a section of this session.
-fn works<R: Wait + Clock>(rt: &R, session: Own<'_>, work: Work) -> Told<u64> {
+/// Does it, in a section of this session, which ends then.
+fn works<R: Wait + Clock>(rt: &R, mut session: Own<'_>, work: Work) -> Told<u64> {
     match work {
-        Work::Counts(bits) => counts(rt, session, bits),
-        Work::Settles(value) => whole::settles(rt, session, value),
-        Work::Reserves => whole::reserves(rt, session),
-        Work::Reads => whole::reads(rt, session),
-        Work::Meets(key) => whole::meets(rt, session, key),
-        Work::Fills => whole::stores(rt, session),
-        Work::Clears => whole::clears_often(rt, session),
-        _ => each(rt, session, work),
+        Work::Counts(bits) => counts(rt, &mut session, bits),
+        Work::Settles(value) => whole::settles(rt, &mut session, value),
+        Work::Reserves => whole::reserves(rt, &mut session),
+        Work::Reads => Ok(whole::reads(rt, &mut session)),
+        Work::Meets(key) => whole::meets(rt, &mut session, key),
+        Work::Fills => whole::fills(rt, &mut session, whole::FEW),
+        Work::Clears => whole::clears_often(rt, &mut session),
+        _ => each(rt, &mut session, work),
     }
 }
 
@@ -71,10 +69,10 @@ fn at<R: Wait>(rt: &R, session: &mut Own<'_>, work: Work, key: u64) -> Told<bool
 }
 
 /// Works at each key in turn.
-fn each<R: Wait>(rt: &R, mut session: Own<'_>, work: Work) -> Told<u64> {
+fn each<R: Wait>(rt: &R, session: &mut Own<'_>, work: Work) -> Told<u64> {
     let mut bits = 0u64;
     for key in 0..KEYS {
-        bits = with(bits, at(rt, &mut session, work, key)?);
+        bits = with(bits, at(rt, session, work, key)?);
         session.refresh();
     }
     Ok(bits)
@@ -118,7 +116,7 @@ pub(crate) fn meet<R: Threads + Wait + Clock + Sync>(rt: &R, made: Told<Map>) ->
 }
 
 /// Counts one up at each of the keys whose bits are among these, in turn.
-fn counts<R: Wait>(rt: &R, mut session: Own<'_>, bits: u64) -> Told<u64> {
+fn counts<R: Wait>(rt: &R, session: &mut Own<'_>, bits: u64) -> Told<u64> {
     for turn in 0..TURNS {
         session.update_or_insert(rt, &(turn & bits), more, &1)?;
         session.refresh();

@@ -58,8 +58,8 @@ fn with(bits: u64, next: bool) -> u64 {
     u64::wrapping_add(u64::wrapping_mul(bits, 2), u64::from(next))
 }
 
-/// Prints what is so of maps of this mode, and answers whether all is.
-fn of_maps<R: Threads + Wait + Clock + Sync + Print>(
+/// Prints what is so of maps and sets of this mode, and answers whether all is.
+fn of_mode<R: Threads + Wait + Clock + Sync + Print>(
     rt: &R,
     alloc: Global,
     mode: ResizeMode,
@@ -76,17 +76,9 @@ fn of_maps<R: Threads + Wait + Clock + Sync + Print>(
     let is_so = whole::meet(rt, made(alloc, mode));
     all = tells(rt, "two walks show what stays, and meet", is_so)? && all;
     let is_so = whole::clears(rt, made(alloc, mode));
-    Ok(tells(rt, "pairs are counted and cleared while others come", is_so)? && all)
-}
-
-/// Prints what is so of passes over maps of this mode, of what they lend, and of sets, and answers whether all is.
-fn of_sets<R: Threads + Wait + Clock + Sync + Print>(
-    rt: &R,
-    alloc: Global,
-    mode: ResizeMode,
-) -> io::Result<bool> {
+    all = tells(rt, "pairs are counted and cleared while others come", is_so)? && all;
     let is_so = whole::follow(rt, made(alloc, mode));
-    let mut all = tells(rt, "two passes meet while values are replaced", is_so)?;
+    all = tells(rt, "two passes meet while values are replaced", is_so)? && all;
     let is_so = whole::settle(rt, made(alloc, mode));
     all = tells(rt, "two are lent the value on which they settle", is_so)? && all;
     let is_so = sets::change(rt, sets::built(alloc, mode));
@@ -118,8 +110,7 @@ fn main(rt: HostRuntime) -> io::Result<()> {
     let alloc = rt.alloc();
     let mut is_so = of_any(&rt, alloc)?;
     for mode in MODES {
-        is_so = of_maps(&rt, alloc, mode)? && is_so;
-        is_so = of_sets(&rt, alloc, mode)? && is_so;
+        is_so = of_mode(&rt, alloc, mode)? && is_so;
     }
     for line in rt.lines(alloc) {
         is_so = rows::holds(&rt, alloc, line?.as_str())? && is_so;

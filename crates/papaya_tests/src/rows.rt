@@ -67,12 +67,15 @@ fn of_key<R: Wait>(rt: &R, alloc: Global, map: &mut Own<'_>, call: &Call<'_>) ->
         "remove" => one(alloc, map.remove(rt, &key)?),
         "remove_entry" => pair(alloc, map.remove_entry(rt, &key)?),
         "compute" => computed(rt, alloc, map, key),
-        "compute_none" => computed_none(rt, alloc, map, key),
+        "compute_none" => {
+            let removed = map.compute(rt, &key, |_| Operation::Remove::<u64, ()>)?;
+            so(alloc, matches!(removed, ComputedPair::Removed(_)))
+        }
         _ => of_value(rt, alloc, map, call),
     }
 }
 
-/// What it answers to a call that stores a value, or removes this one.
+/// What it answers to a call that stores a value, removes this one, or raises a count.
 fn of_value<R: Wait>(rt: &R, alloc: Global, map: &mut Own<'_>, call: &Call<'_>) -> Told<String> {
     let (key, value) = (call.key, call.value);
     match call.name {
@@ -86,19 +89,12 @@ fn of_value<R: Wait>(rt: &R, alloc: Global, map: &mut Own<'_>, call: &Call<'_>) 
             Some(old) => one(alloc, Some(map.value(old))),
             None => one(alloc, None),
         },
-        _ => of_count(rt, alloc, map, call),
-    }
-}
-
-/// What it answers to a call that raises a count.
-fn of_count<R: Wait>(rt: &R, alloc: Global, map: &mut Own<'_>, call: &Call<'_>) -> Told<String> {
-    match call.name {
-        "update" => match map.update(rt, &call.key, more)? {
+        "update" => match map.update(rt, &key, more)? {
             Some(new) => one(alloc, Some(map.value(new))),
             None => one(alloc, None),
         },
         "update_or_insert" => {
-            let there = map.update_or_insert(rt, &call.key, more, &call.value)?;
+            let there = map.update_or_insert(rt, &key, more, &value)?;
             one(alloc, Some(map.value(there)))
         }
         _ => of_making(rt, alloc, map, call),
@@ -133,12 +129,6 @@ fn computed<R: Wait>(rt: &R, alloc: Global, map: &mut Own<'_>, key: u64) -> Told
         ComputedPair::Removed(old) => Ok(format!(in alloc; "removed {}", map.value(old))?),
         ComputedPair::Aborted(count) => Ok(format!(in alloc; "aborted {count}")?),
     }
-}
-
-/// Whether a key was computed to none.
-fn computed_none<R: Wait>(rt: &R, alloc: Global, map: &mut Own<'_>, key: u64) -> Told<String> {
-    let removed = map.compute(rt, &key, |_| Operation::Remove::<u64, ()>)?;
-    so(alloc, matches!(removed, ComputedPair::Removed(_)))
 }
 
 /// What a map answers to a call that may ask for a value; and whether it did.
@@ -178,8 +168,9 @@ fn of_asking<R: Wait>(
     }
 }
 
-/// What a map answers to a call on all its pairs that changes none.
+/// What a map answers to a call on all its pairs.
 fn of_all<R: Wait>(rt: &R, alloc: Global, map: &mut Own<'_>, call: &Call<'_>) -> Told<String> {
+    let (key, value) = (call.key, call.value);
     match call.name {
         "len" => one(alloc, Some(&map.len())),
         "is_empty" => so(alloc, map.is_empty()),
@@ -187,14 +178,6 @@ fn of_all<R: Wait>(rt: &R, alloc: Global, map: &mut Own<'_>, call: &Call<'_>) ->
         "keys" => list(alloc, map.keys(rt, alloc)?),
         "values" => list(alloc, map.values(rt, alloc)?),
         "walk" => walked(rt, alloc, map, call),
-        _ => of_changing(rt, alloc, map, call),
-    }
-}
-
-/// What it answers to one that changes some.
-fn of_changing<R: Wait>(rt: &R, alloc: Global, map: &mut Own<'_>, call: &Call<'_>) -> Told<String> {
-    let (key, value) = (call.key, call.value);
-    match call.name {
         "clear" => done(alloc, map.clear(rt)),
         "reserve" => done(alloc, map.reserve(rt, key)),
         "retain" => done(alloc, map.retain(rt, |_, there| *there < key)),

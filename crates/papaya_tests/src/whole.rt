@@ -9,7 +9,7 @@ use std::thread::{self, Threads};
 use std::time::{Clock, Duration};
 
 /// How many keys there are.
-const FEW: u64 = 1_024;
+pub(crate) const FEW: u64 = 1_024;
 
 /// How often all keys are looked up while room is made, or are cleared.
 const ROUNDS: u64 = 32;
@@ -69,7 +69,7 @@ pub(crate) fn shown<R: Wait>(rt: &R, session: &mut Own<'_>, many: u64) -> Told<(
 }
 
 /// Makes room again and again, twice as much each time.
-pub(crate) fn reserves<R: Wait>(rt: &R, mut session: Own<'_>) -> Told<u64> {
+pub(crate) fn reserves<R: Wait>(rt: &R, session: &mut Own<'_>) -> Told<u64> {
     for more in [2_048u64, 4_096, 8_192, 16_384, 32_768] {
         session.reserve(rt, more)?;
     }
@@ -77,19 +77,19 @@ pub(crate) fn reserves<R: Wait>(rt: &R, mut session: Own<'_>) -> Told<u64> {
 }
 
 /// How often it has found a key, looking for each of them again and again.
-pub(crate) fn reads<R: Wait>(rt: &R, mut session: Own<'_>) -> Told<u64> {
+pub(crate) fn reads<R: Wait>(rt: &R, session: &mut Own<'_>) -> u64 {
     let mut found = 0u64;
     for _ in 0..ROUNDS {
-        found = u64::wrapping_add(found, finds(rt, &mut session, FEW, 1));
+        found = u64::wrapping_add(found, finds(rt, session, FEW, 1));
         session.refresh();
     }
-    Ok(found)
+    found
 }
 
 /// Tells whether each lookup of one thread finds its key, while another one makes room, and as many are there then.
 pub(crate) fn grows<R: Threads + Wait + Clock + Sync>(rt: &R, made: Told<Map>) -> Told<bool> {
     let map = made?;
-    let _ = stores(rt, map.session()?)?;
+    let _ = fills(rt, &mut map.session()?, FEW)?;
     let (_, found) = both(rt, &map, Work::Reserves, Work::Reads)?;
     Ok(found == ROUNDS * FEW && map.session()?.len() == FEW)
 }
@@ -118,10 +118,10 @@ fn seen<R: Wait>(rt: &R, mut session: Own<'_>) -> Told<u64> {
 }
 
 /// Stores one further key, and goes over the pairs until it is shown that of the other one, too. Answers 1 where that came, and each time all were shown that stay.
-pub(crate) fn meets<R: Wait + Clock>(rt: &R, mut session: Own<'_>, own: u64) -> Told<u64> {
+pub(crate) fn meets<R: Wait + Clock>(rt: &R, session: &mut Own<'_>, own: u64) -> Told<u64> {
     let _ = session.insert(rt, own, 0)?;
     for _ in 0..LOOKS {
-        let (staying, others) = shown(rt, &mut session, STAY)?;
+        let (staying, others) = shown(rt, session, STAY)?;
         if staying != STAY || others == 2 {
             return Ok(u64::from(staying == STAY));
         }
@@ -140,13 +140,8 @@ pub(crate) fn meet<R: Threads + Wait + Clock + Sync>(rt: &R, made: Told<Map>) ->
     Ok(told == (1, 1) && seen(rt, map.session()?)? == STAY + 2)
 }
 
-/// Stores each of some keys once.
-pub(crate) fn stores<R: Wait>(rt: &R, mut session: Own<'_>) -> Told<u64> {
-    fills(rt, &mut session, FEW)
-}
-
 /// Counts the pairs, and removes them, again and again. Answers 1 where no more are counted than keys are stored.
-pub(crate) fn clears_often<R: Wait>(rt: &R, mut session: Own<'_>) -> Told<u64> {
+pub(crate) fn clears_often<R: Wait>(rt: &R, session: &mut Own<'_>) -> Told<u64> {
     let mut are_few = true;
     for _ in 0..ROUNDS {
         are_few = session.len() <= FEW && are_few;
@@ -208,7 +203,7 @@ pub(crate) fn follow<R: Threads + Wait + Clock + Sync>(rt: &R, made: Told<Map>) 
 }
 
 /// Offers this value for each key, and answers the sum of those that are there then.
-pub(crate) fn settles<R: Wait>(rt: &R, mut session: Own<'_>, value: u64) -> Told<u64> {
+pub(crate) fn settles<R: Wait>(rt: &R, session: &mut Own<'_>, value: u64) -> Told<u64> {
     let mut sum = 0u64;
     for key in 0..TURNS {
         sum = u64::wrapping_add(sum, *session.get_or_insert(rt, key, value)?);
