@@ -1,5 +1,5 @@
 use Rattle.std.proofs.Common.{◌≡◌}
-use Rattle.papaya_tests.proofs.passing.follows.Given as goal
+use Rattle.papaya_tests.proofs.whole.follows.Given as goal
 
 -- the pass is of the memory that it was of
 abbrev pub invariant-loop-turn : goal.invariant-loop-turn
