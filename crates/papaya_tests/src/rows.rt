@@ -51,52 +51,24 @@ fn list(alloc: Global, mut keys: Vec<u64>) -> Told<String> {
     Ok(format!(in alloc; "{keys:?}")?)
 }
 
-/// That something was done.
-fn done(alloc: Global, done: Told<()>) -> Told<String> {
-    done?;
-    so(alloc, true)
-}
-
 /// What a map answers to a call on one key.
 fn of_key<R: Wait>(rt: &R, alloc: Global, map: &mut Own<'_>, call: &Call<'_>) -> Told<String> {
-    let key = call.key;
+    let (key, value) = (call.key, call.value);
     match call.name {
         "get" => one(alloc, map.get(rt, &key)),
         "get_key_value" => pair(alloc, map.pin().get_key_value(rt, &key)),
         "contains_key" => so(alloc, map.contains_key(rt, &key)),
-        "remove" => one(alloc, map.remove(rt, &key)?),
-        "remove_entry" => pair(alloc, map.remove_entry(rt, &key)?),
-        "compute" => computed(rt, alloc, map, key),
-        "compute_none" => {
-            let removed = map.compute(rt, &key, |_| Operation::Remove::<u64, ()>)?;
-            so(alloc, matches!(removed, ComputedPair::Removed(_)))
-        }
-        _ => of_value(rt, alloc, map, call),
-    }
-}
-
-/// What it answers to a call that stores a value, removes this one, or raises a count.
-fn of_value<R: Wait>(rt: &R, alloc: Global, map: &mut Own<'_>, call: &Call<'_>) -> Told<String> {
-    let (key, value) = (call.key, call.value);
-    match call.name {
         "insert" => match map.insert(rt, key, value)? {
             Some(old) => one(alloc, Some(map.value(old))),
             None => one(alloc, None),
         },
         "try_insert" => tried(rt, alloc, map, call),
-        "get_or_insert" => one(alloc, Some(map.get_or_insert(rt, key, value)?)),
+        "remove" => one(alloc, map.remove(rt, &key)?),
+        "remove_entry" => pair(alloc, map.remove_entry(rt, &key)?),
         "remove_if" => match map.remove_if(rt, &key, |_, there| *there == value)? {
             Some(old) => one(alloc, Some(map.value(old))),
             None => one(alloc, None),
         },
-        "update" => match map.update(rt, &key, more)? {
-            Some(new) => one(alloc, Some(map.value(new))),
-            None => one(alloc, None),
-        },
-        "update_or_insert" => {
-            let there = map.update_or_insert(rt, &key, more, &value)?;
-            one(alloc, Some(map.value(there)))
-        }
         _ => of_making(rt, alloc, map, call),
     }
 }
@@ -131,41 +103,44 @@ fn computed<R: Wait>(rt: &R, alloc: Global, map: &mut Own<'_>, key: u64) -> Told
     }
 }
 
-/// What a map answers to a call that may ask for a value; and whether it did.
+/// What a map answers to a call that makes a value of the one that is there, or where none is; and whether it asked for that.
 fn of_making<R: Wait>(rt: &R, alloc: Global, map: &mut Own<'_>, call: &Call<'_>) -> Told<String> {
-    let asked = AtomicU64::new(0);
-    let said = of_asking(rt, alloc, map, call, &asked)?;
-    if asked.load(SeqCst) == 0 {
-        return Ok(said);
-    }
-    Ok(format!(in alloc; "{said} asked")?)
-}
-
-/// What it answers to such a call, which notes here that it has asked.
-fn of_asking<R: Wait>(
-    rt: &R,
-    alloc: Global,
-    map: &mut Own<'_>,
-    call: &Call<'_>,
-    asked: &AtomicU64,
-) -> Told<String> {
     let (key, value) = (call.key, call.value);
+    let asked = AtomicU64::new(0);
     let new = || {
         asked.store(1, SeqCst);
         value
     };
-    match call.name {
+    let said = match call.name {
         "try_insert_with" => {
             let (there, _) = map.try_insert_with(rt, key, new)?;
-            one(alloc, Some(map.value(there)))
+            one(alloc, Some(map.value(there)))?
         }
-        "get_or_insert_with" => one(alloc, Some(map.get_or_insert_with(rt, key, new)?)),
+        "get_or_insert" => one(alloc, Some(map.get_or_insert(rt, key, value)?))?,
+        "get_or_insert_with" => one(alloc, Some(map.get_or_insert_with(rt, key, new)?))?,
+        "update" => match map.update(rt, &key, more)? {
+            Some(new) => one(alloc, Some(map.value(new)))?,
+            None => one(alloc, None)?,
+        },
+        "update_or_insert" => {
+            let there = map.update_or_insert(rt, &key, more, &value)?;
+            one(alloc, Some(map.value(there)))?
+        }
         "update_or_insert_with" => {
             let there = map.update_or_insert_with(rt, &key, more, new)?;
-            one(alloc, Some(map.value(there)))
+            one(alloc, Some(map.value(there)))?
         }
-        _ => of_all(rt, alloc, map, call),
+        "compute" => computed(rt, alloc, map, key)?,
+        "compute_none" => {
+            let removed = map.compute(rt, &key, |_| Operation::Remove::<u64, ()>)?;
+            so(alloc, matches!(removed, ComputedPair::Removed(_)))?
+        }
+        _ => of_all(rt, alloc, map, call)?,
+    };
+    if asked.load(SeqCst) == 0 {
+        return Ok(said);
     }
+    Ok(format!(in alloc; "{said} asked")?)
 }
 
 /// What a map answers to a call on all its pairs.
@@ -177,14 +152,14 @@ fn of_all<R: Wait>(rt: &R, alloc: Global, map: &mut Own<'_>, call: &Call<'_>) ->
         "number" => so(alloc, map.pin().session().number() == map.number()),
         "keys" => list(alloc, map.keys(rt, alloc)?),
         "values" => list(alloc, map.values(rt, alloc)?),
+        "clear" => so(alloc, map.clear(rt)? == ()),
+        "reserve" => so(alloc, map.reserve(rt, key)? == ()),
+        "retain" => so(alloc, map.retain(rt, |_, there| *there < key)? == ()),
+        "extend" => so(
+            alloc,
+            map.extend(rt, [(key, 1), (value, 2), (key, 3)])? == (),
+        ),
         "walk" => walked(rt, alloc, map, call),
-        "clear" => done(alloc, map.clear(rt)),
-        "reserve" => done(alloc, map.reserve(rt, key)),
-        "retain" => done(alloc, map.retain(rt, |_, there| *there < key)),
-        "extend" => {
-            map.extend(rt, [(key, 1), (value, 2), (key, 3)])?;
-            so(alloc, true)
-        }
         _ => of_many(rt, alloc, map, call),
     }
 }
@@ -192,15 +167,14 @@ fn of_all<R: Wait>(rt: &R, alloc: Global, map: &mut Own<'_>, call: &Call<'_>) ->
 /// What a map answers to one call after another, on so many keys.
 fn of_many<R: Wait>(rt: &R, alloc: Global, map: &mut Own<'_>, call: &Call<'_>) -> Told<String> {
     let many = call.key;
-    let told = match call.name {
-        "fill" => whole::fills(rt, map, many)?,
-        "find" => whole::finds(rt, map, many, call.value),
-        "lower" => whole::lowers(rt, map, many, false)?,
-        "take" => whole::lowers(rt, map, many, true)?,
-        "show" => whole::shown(rt, map, many)?.0,
-        _ => return Ok(format!(in alloc; "no call")?),
-    };
-    one(alloc, Some(&told))
+    match call.name {
+        "fill" => one(alloc, Some(&whole::fills(rt, map, many)?)),
+        "find" => one(alloc, Some(&whole::finds(rt, map, many, call.value))),
+        "lower" => one(alloc, Some(&whole::lowers(rt, map, many, false)?)),
+        "take" => one(alloc, Some(&whole::lowers(rt, map, many, true)?)),
+        "show" => one(alloc, Some(&whole::shown(rt, map, many)?.0)),
+        _ => Ok(format!(in alloc; "no call")?),
+    }
 }
 
 /// The first two pairs of three keys that a walk lends.
@@ -211,7 +185,7 @@ fn walked<R: Wait>(rt: &R, alloc: Global, map: &mut Own<'_>, call: &Call<'_>) ->
     Ok(format!(in alloc; "{first}, {second}")?)
 }
 
-/// What a set answers to a call on an element.
+/// What a set answers to a call.
 fn of_set<R: Wait>(rt: &R, alloc: Global, set: &mut Set<'_>, call: &Call<'_>) -> Told<String> {
     let key = call.key;
     match call.name {
@@ -219,7 +193,9 @@ fn of_set<R: Wait>(rt: &R, alloc: Global, set: &mut Set<'_>, call: &Call<'_>) ->
         "contains" => so(alloc, set.contains(rt, &key)),
         "insert" => so(alloc, set.insert(rt, key)?),
         "remove" => so(alloc, set.remove(rt, &key)?),
-        "walk" => one(alloc, set.walk(vec![in alloc; 99, key]?).next(rt)),
+        "number" => so(alloc, set.pin().session().number() == set.number()),
+        "len" => one(alloc, Some(&set.len())),
+        "is_empty" => so(alloc, set.is_empty()),
         _ => of_elements(rt, alloc, set, call),
     }
 }
@@ -228,17 +204,12 @@ fn of_set<R: Wait>(rt: &R, alloc: Global, set: &mut Set<'_>, call: &Call<'_>) ->
 fn of_elements<R: Wait>(rt: &R, alloc: Global, set: &mut Set<'_>, call: &Call<'_>) -> Told<String> {
     let key = call.key;
     match call.name {
-        "number" => so(alloc, set.pin().session().number() == set.number()),
-        "len" => one(alloc, Some(&set.len())),
-        "is_empty" => so(alloc, set.is_empty()),
         "elements" => list(alloc, set.elements(rt, alloc)?),
-        "clear" => done(alloc, set.clear(rt)),
-        "reserve" => done(alloc, set.reserve(rt, key)),
-        "retain" => done(alloc, set.retain(rt, |element| *element < key)),
-        "extend" => {
-            set.extend(rt, [key, call.value, key])?;
-            so(alloc, true)
-        }
+        "clear" => so(alloc, set.clear(rt)? == ()),
+        "reserve" => so(alloc, set.reserve(rt, key)? == ()),
+        "retain" => so(alloc, set.retain(rt, |element| *element < key)? == ()),
+        "extend" => so(alloc, set.extend(rt, [key, call.value, key])? == ()),
+        "walk" => one(alloc, set.walk(vec![in alloc; 99, key]?).next(rt)),
         _ => Ok(format!(in alloc; "no call")?),
     }
 }
