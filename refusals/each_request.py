@@ -3,9 +3,9 @@
 
     refusals/each_request.py [PROGRAM]    exits 1 if a run ends or prints otherwise, and then says which request was refused
 
-PROGRAM is built, with its wanted output in a file `stdout` beside its folder out/. Without it, it is each of those that `rt ci` has built in
-crates/papaya_seq_tests, crates/seize_collector_tests and crates/shared_map_refusals, and nothing is printed where all is well. Its requests are calls of malloc
-and realloc, so a library is put before the C library that refuses one of them.
+PROGRAM is built, with its wanted output in a file `stdout` beside its folder out/: as it has no input here, it prints how that begins. Without it, it is each of
+those that `rt ci` has built in crates/papaya_seq_tests, crates/seize_collector_tests and crates/papaya_json_tests, and nothing is printed where all is well. Its
+requests are calls of malloc and realloc, so a library is put before the C library that refuses one of them.
 """
 import os
 import shutil
@@ -14,7 +14,7 @@ import sys
 import tempfile
 
 TOP = os.path.dirname(os.path.dirname(os.path.abspath(__file__)))
-PROGRAMS = [f"{TOP}/crates/{name}/out/{name}" for name in ("papaya_seq_tests", "seize_collector_tests", "shared_map_refusals")]
+PROGRAMS = [f"{TOP}/crates/{name}/out/{name}" for name in ("papaya_seq_tests", "seize_collector_tests", "papaya_json_tests")]
 # refuses the request with the number in REFUSED, and then writes a byte to the open file with the number in TOLD
 REFUSING = r"""
 extern void *__libc_malloc(unsigned long);
@@ -56,8 +56,11 @@ def run(program, library, number):
 
 def tried(program, library):
     """How many requests a program makes, each of which was refused in a run of its own that ended well."""
+    _, status, wanted = run(program, library, 0)
     with open(f"{os.path.dirname(os.path.dirname(program))}/stdout", "rb") as it:
-        wanted = it.read()
+        begins = it.read().startswith(wanted)
+    if status or not wanted or not begins:
+        sys.exit(f"each request: with none refused, {program} ends with status {status}, or prints otherwise")
     for number in range(1, MOST):
         was, status, said = run(program, library, number)
         if status or said != wanted:

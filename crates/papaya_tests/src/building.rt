@@ -13,27 +13,29 @@ use std::time::{Clock, Duration};
 pub(crate) fn reasons(alloc: Global, one: RandomState, other: RandomState) -> Told<bool> {
     let mut ids = IdSource::starting_at(u64::MAX - 2);
     let builder = Map::builder(Hashing::default()).capacity(u64::MAX);
-    let shown = format!(in alloc; "{builder:?}")?;
+    let is_shown = format!(in alloc; "{builder:?}")?.as_str()
+        == "HashMapBuilder { capacity: 18446744073709551615, collector: None, resize_mode: Incremental(64) }";
     let many = builder.build(alloc, &mut ids);
+    let is_many = matches!(many, Err(Fault::Capacity));
     let builder = Map::builder(Hashing::default()).resize_mode(ResizeMode::Incremental(0));
     let zero = builder.capacity(u64::MAX).build(alloc, &mut ids);
     let with = Map::with_capacity_and_hasher(alloc, &mut ids, u64::MAX / 8 + 1, Hashing::default());
-    let still = HashMap::<u64, u64>::with_capacity(alloc, &mut ids, 100, one);
-    let last = Map::with_capacity_and_hasher(alloc, &mut ids, 100, Hashing::default());
-    let none = Map::with_hasher(alloc, &mut ids, Hashing::default());
-    let new = HashMap::<u64, u64>::new(alloc, &mut ids, other);
     let so = [
-        shown.as_str()
-            == "HashMapBuilder { capacity: 18446744073709551615, collector: None, resize_mode: Incremental(64) }",
-        matches!(many, Err(Fault::Capacity)),
+        is_shown && is_many,
         matches!(zero, Err(Fault::ZeroChunk)),
         matches!(with, Err(Fault::Capacity)),
-        still.is_ok(),
-        last.is_ok(),
-        matches!(none, Err(Fault::CollectorsUsedUp)),
-        matches!(new, Err(Fault::CollectorsUsedUp)),
+        HashMap::<u64, u64>::with_capacity(alloc, &mut ids, 100, one).is_ok(),
+        Map::with_capacity_and_hasher(alloc, &mut ids, 100, Hashing::default()).is_ok(),
+        matches!(
+            Map::with_hasher(alloc, &mut ids, Hashing::default()),
+            Err(Fault::CollectorsUsedUp)
+        ),
+        matches!(
+            HashMap::<u64, u64>::new(alloc, &mut ids, other),
+            Err(Fault::CollectorsUsedUp)
+        ),
     ];
-    Ok(so == [true; 8])
+    Ok(so == [true; 7])
 }
 
 /// A map of this mode, which was built with all that can be chosen: also of batches of one block, and two shards.
@@ -88,6 +90,13 @@ pub(crate) fn meet<R: Threads + Wait + Clock + Sync>(rt: &R, made: Told<Map>) ->
     Ok([a?, b?] == [Some(1); 2])
 }
 
+/// Stores a pair in a section of this session, which then is open once more, and ends.
+fn stores<R: Wait>(rt: &R, mut session: Own<'_>, key: u64, value: u64) -> Told<()> {
+    let _ = session.insert(rt, key, value)?;
+    session.refresh();
+    Ok(())
+}
+
 /// Stores a key in a section of a registration that it was sent, which it answers back.
 fn enters<'m, R: Wait>(
     rt: &R,
@@ -103,14 +112,11 @@ fn enters<'m, R: Wait>(
 pub(crate) fn stays<R: Threads + Wait + Sync>(rt: &R, alloc: Global) -> Told<bool> {
     let made = made(alloc, ResizeMode::default())?;
     let map = made.shared();
-    let mut first = map.session()?;
-    let _ = first.insert(rt, 5, 6)?;
-    first.refresh();
-    drop(first);
+    stores(rt, map.session()?, 5, 6)?;
     let registration = map.register()?;
     let (registration, ()) = thread::join(rt, || enters(rt, registration), || ());
     let registration = registration?;
-    let _ = map.session()?.insert(rt, 3, 4)?;
+    stores(rt, map.session()?, 3, 4)?;
     let mut next = registration.enter();
     let found = [
         next.get(rt, &5).copied(),
@@ -122,25 +128,25 @@ pub(crate) fn stays<R: Threads + Wait + Sync>(rt: &R, alloc: Global) -> Told<boo
 }
 
 /// Whether each of two maps says that the other one is the same, or is not.
-fn alike<R: Wait>(rt: &R, one: &mut Own<'_>, other: &mut Own<'_>) -> Told<[bool; 2]> {
-    Ok([one.same(rt, other)?, other.same(rt, one)?])
+fn alike<R: Wait>(rt: &R, one: &Map, other: &Map) -> Told<[bool; 2]> {
+    let (mut one, mut other) = (one.session()?, other.session()?);
+    Ok([one.same(rt, &mut other)?, other.same(rt, &mut one)?])
 }
 
-/// Tells whether a map and its clones are the same: the empty one, and one of two pairs, until a pair is stored there, and still not once its value is another one.
+/// Tells whether a map and its clone are the same until this key is stored there, and still not once the map has it with another value.
+fn differ<R: Wait>(rt: &R, map: &Map, copy: &Map, key: u64) -> Told<bool> {
+    let cloned = alike(rt, map, copy)?;
+    stores(rt, copy.session()?, key, 1)?;
+    let more = alike(rt, map, copy)?;
+    stores(rt, map.session()?, key, 2)?;
+    Ok([cloned, more, alike(rt, map, copy)?] == [[true; 2], [false; 2], [false; 2]])
+}
+
+/// Tells whether a map and its clones are so: an empty one, and one of two pairs.
 pub(crate) fn copies<R: Wait>(rt: &R, alloc: Global) -> Told<bool> {
     let mut ids = IdSource::new();
     let map = Map::with_hasher(alloc, &mut ids, Hashing::default())?;
-    let none = map.clone(rt, alloc, &mut ids)?;
-    let (mut own, mut empty) = (map.session()?, none.session()?);
-    let at_first = alike(rt, &mut own, &mut empty)?;
-    own.extend(rt, [(0, 10), (10, 0)])?;
-    let then = alike(rt, &mut own, &mut empty)?;
-    let two = map.clone(rt, alloc, &mut ids)?;
-    let mut copy = two.session()?;
-    let cloned = alike(rt, &mut own, &mut copy)?;
-    let _ = copy.insert(rt, 100, 1)?;
-    let more = alike(rt, &mut own, &mut copy)?;
-    let _ = own.insert(rt, 100, 2)?;
-    let other = alike(rt, &mut own, &mut copy)?;
-    Ok([at_first, cloned] == [[true; 2]; 2] && [then, more, other] == [[false; 2]; 3])
+    let none = differ(rt, &map, &map.clone(rt, alloc, &mut ids)?, 10)?;
+    stores(rt, map.session()?, 0, 10)?;
+    Ok(none && differ(rt, &map, &map.clone(rt, alloc, &mut ids)?, 100)?)
 }

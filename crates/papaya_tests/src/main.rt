@@ -4,7 +4,6 @@
 
 mod building;
 mod keys;
-mod passing;
 mod rows;
 mod sets;
 mod whole;
@@ -78,9 +77,9 @@ fn of_mode<R: Threads + Wait + Clock + Sync + Print>(
     all = tells(rt, "two walks show what stays, and meet", is_so)? && all;
     let is_so = whole::clears(rt, made(alloc, mode));
     all = tells(rt, "pairs are counted and cleared while others come", is_so)? && all;
-    let is_so = passing::follow(rt, made(alloc, mode));
+    let is_so = whole::follow(rt, made(alloc, mode));
     all = tells(rt, "two passes meet while values are replaced", is_so)? && all;
-    let is_so = passing::settle(rt, made(alloc, mode));
+    let is_so = whole::settle(rt, made(alloc, mode));
     all = tells(rt, "two are lent the value on which they settle", is_so)? && all;
     let is_so = sets::change(rt, sets::built(alloc, mode));
     all = tells(rt, "of two calls on an element one comes first", is_so)? && all;
@@ -103,13 +102,8 @@ fn of_any<R: Threads + Wait + RandomSource + Sync + Print>(
     all = tells(rt, "what sessions have stored stays", is_so)? && all;
     let is_so = building::copies(rt, alloc);
     all = tells(rt, "a clone is the same until one changes", is_so)? && all;
-    Ok(
-        tells(
-            rt,
-            "a set refuses what is of another one",
-            sets::foreign(rt, alloc),
-        )? && all,
-    )
+    let is_so = sets::foreign(rt, alloc);
+    Ok(tells(rt, "a set refuses what is of another one", is_so)? && all)
 }
 
 fn main(rt: HostRuntime) -> io::Result<()> {

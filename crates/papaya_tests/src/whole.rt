@@ -1,19 +1,24 @@
 //! Calls on a whole map: what one session counts and is shown of so many keys; keys that are found while another thread makes room; two threads that go over all pairs until
-//! they meet; and one that counts and clears while another one stores.
-use crate::{LOOKS, Map, Own, Told};
+//! they meet; and one that counts and clears while another one stores. Two threads look under one guard, each by a pass, at what the other one stores and replaces; and two settle
+//! on one value for each key, which both are lent.
+use crate::keys::{Work, both};
+use crate::{LOOKS, Lent, Map, Own, Told};
 use papaya::Onlooker;
 use std::sync::Wait;
 use std::thread::{self, Threads};
 use std::time::{Clock, Duration};
 
 /// How many keys there are.
-const FEW: u64 = 1_024;
+pub(crate) const FEW: u64 = 1_024;
 
 /// How often all keys are looked up while room is made, or are cleared.
 const ROUNDS: u64 = 32;
 
 /// How many keys stay.
 const STAY: u64 = 100;
+
+/// How many values one key has, one after another, and on how many keys two threads settle.
+const TURNS: u64 = 300;
 
 /// Stores so many keys, each with its successor, and answers how many pairs are counted then.
 pub(crate) fn fills<R: Wait>(rt: &R, session: &mut Own<'_>, many: u64) -> Told<u64> {
@@ -64,32 +69,29 @@ pub(crate) fn shown<R: Wait>(rt: &R, session: &mut Own<'_>, many: u64) -> Told<(
 }
 
 /// Makes room again and again, twice as much each time.
-fn reserves<R: Wait>(rt: &R, mut session: Own<'_>) -> Told<()> {
+pub(crate) fn reserves<R: Wait>(rt: &R, session: &mut Own<'_>) -> Told<u64> {
     for more in [2_048u64, 4_096, 8_192, 16_384, 32_768] {
         session.reserve(rt, more)?;
     }
-    Ok(())
+    Ok(0)
 }
 
 /// How often it has found a key, looking for each of them again and again.
-fn reads<R: Wait>(rt: &R, mut session: Own<'_>) -> u64 {
+pub(crate) fn reads<R: Wait>(rt: &R, session: &mut Own<'_>) -> u64 {
     let mut found = 0u64;
     for _ in 0..ROUNDS {
-        found = u64::wrapping_add(found, finds(rt, &mut session, FEW, 1));
+        found = u64::wrapping_add(found, finds(rt, session, FEW, 1));
         session.refresh();
     }
     found
 }
 
 /// Tells whether each lookup of one thread finds its key, while another one makes room, and as many are there then.
-pub(crate) fn grows<R: Threads + Wait + Sync>(rt: &R, made: Told<Map>) -> Told<bool> {
+pub(crate) fn grows<R: Threads + Wait + Clock + Sync>(rt: &R, made: Told<Map>) -> Told<bool> {
     let map = made?;
-    let mut first = map.session()?;
-    let (second, third) = (first.another()?, first.another()?);
-    let _ = fills(rt, &mut first, FEW)?;
-    let (done, found) = thread::join(rt, || reserves(rt, second), || reads(rt, third));
-    done?;
-    Ok(found == ROUNDS * FEW && first.len() == FEW)
+    let _ = fills(rt, &mut map.session()?, FEW)?;
+    let (_, found) = both(rt, &map, Work::Reserves, Work::Reads)?;
+    Ok(found == ROUNDS * FEW && map.session()?.len() == FEW)
 }
 
 /// An onlooker that counts what it is shown.
@@ -108,60 +110,109 @@ impl Onlooker<u64, u64> for Counts {
     }
 }
 
-/// Stores one further key, and goes over the pairs until it is shown that of the other one, too. Answers whether that came, and each time all were shown that stay.
-fn meets<R: Wait + Clock>(rt: &R, mut session: Own<'_>, own: u64) -> Told<bool> {
+/// How many pairs an onlooker is shown.
+fn seen<R: Wait>(rt: &R, mut session: Own<'_>) -> Told<u64> {
+    let (end, counts) = session.shows_to(rt, Counts { pairs: 0 });
+    end?;
+    Ok(counts.pairs)
+}
+
+/// Stores one further key, and goes over the pairs until it is shown that of the other one, too. Answers 1 where that came, and each time all were shown that stay.
+pub(crate) fn meets<R: Wait + Clock>(rt: &R, session: &mut Own<'_>, own: u64) -> Told<u64> {
     let _ = session.insert(rt, own, 0)?;
     for _ in 0..LOOKS {
-        let (staying, others) = shown(rt, &mut session, STAY)?;
+        let (staying, others) = shown(rt, session, STAY)?;
         if staying != STAY || others == 2 {
-            return Ok(staying == STAY);
+            return Ok(u64::from(staying == STAY));
         }
         session.refresh();
         thread::sleep(rt, Duration::from_millis(1));
     }
-    Ok(false)
+    Ok(0)
 }
 
 /// Tells whether two threads do so, and an onlooker is shown as many pairs then. Were the threads served one after another, the first one would not be shown the key of the
 /// second.
 pub(crate) fn meet<R: Threads + Wait + Clock + Sync>(rt: &R, made: Told<Map>) -> Told<bool> {
     let map = made?;
-    let mut first = map.session()?;
-    let (second, third) = (first.another()?, first.another()?);
-    let _ = fills(rt, &mut first, STAY)?;
-    let (one, other) = thread::join(
-        rt,
-        || meets(rt, second, STAY),
-        || meets(rt, third, STAY + 1),
-    );
-    let (end, counts) = first.shows_to(rt, Counts { pairs: 0 });
-    end?;
-    Ok(one? && other? && counts.pairs == STAY + 2)
+    let _ = fills(rt, &mut map.session()?, STAY)?;
+    let told = both(rt, &map, Work::Meets(STAY), Work::Meets(STAY + 1))?;
+    Ok(told == (1, 1) && seen(rt, map.session()?)? == STAY + 2)
 }
 
-/// Counts the pairs, and removes them, again and again. Tells whether no more are counted than keys are stored.
-fn clears_often<R: Wait>(rt: &R, mut session: Own<'_>) -> Told<bool> {
+/// Counts the pairs, and removes them, again and again. Answers 1 where no more are counted than keys are stored.
+pub(crate) fn clears_often<R: Wait>(rt: &R, session: &mut Own<'_>) -> Told<u64> {
     let mut are_few = true;
     for _ in 0..ROUNDS {
         are_few = session.len() <= FEW && are_few;
         session.clear(rt)?;
         session.refresh();
     }
-    Ok(are_few)
+    Ok(u64::from(are_few))
 }
 
-/// Tells whether one thread does so while another one stores each key once, what is left is what is counted, and is gone once it is cleared.
-pub(crate) fn clears<R: Threads + Wait + Sync>(rt: &R, made: Told<Map>) -> Told<bool> {
+/// Tells whether what is left is what is counted, and is gone once it is cleared.
+fn goes<R: Wait>(rt: &R, mut session: Own<'_>) -> Told<bool> {
+    let left = session.len();
+    let same = shown(rt, &mut session, FEW)? == (left, 0);
+    session.clear(rt)?;
+    Ok(same && session.is_empty())
+}
+
+/// Tells whether one thread clears a map so while another one stores each key once, and what is left goes then.
+pub(crate) fn clears<R: Threads + Wait + Clock + Sync>(rt: &R, made: Told<Map>) -> Told<bool> {
     let map = made?;
-    let mut first = map.session()?;
-    let (second, mut third) = (first.another()?, first.another()?);
-    let (few, stored) = thread::join(
+    let (few, stored) = both(rt, &map, Work::Clears, Work::Fills)?;
+    Ok(few == 1 && stored <= FEW && goes(rt, map.session()?)?)
+}
+
+/// Stores one value after another at one of two keys, by a session of its own, and looks each time at the other key, by a pass under the guard, until that has its last value.
+/// Tells whether that comes, and no value was less than the one before it, which is lent still.
+fn follows<R: Wait + Clock>(rt: &R, map: &Lent<'_>, guard: &Own<'_>, key: u64) -> Told<bool> {
+    let mut session = map.session()?;
+    let mut pass = guard.pass();
+    let mut before: Option<&u64> = None;
+    for turn in 0..LOOKS {
+        let _ = session.insert(rt, key, turn.min(TURNS))?;
+        session.refresh();
+        let value = guard.get_by(rt, &(key ^ 1), &mut pass)?;
+        if value.copied().unwrap_or(0) < before.copied().unwrap_or(0) {
+            return Ok(false);
+        }
+        if turn >= TURNS && value.copied() == Some(TURNS) {
+            return Ok(true);
+        }
+        before = value;
+        thread::sleep(rt, Duration::from_millis(1));
+    }
+    Ok(false)
+}
+
+/// Tells whether two threads do so under one guard. Were they served one after another, or one pass under the guard at a time, the first would not find the values of the
+/// second.
+pub(crate) fn follow<R: Threads + Wait + Clock + Sync>(rt: &R, made: Told<Map>) -> Told<bool> {
+    let made = made?;
+    let map = made.shared();
+    let guard = map.session()?;
+    let (one, other) = thread::join(
         rt,
-        || clears_often(rt, second),
-        || fills(rt, &mut third, FEW),
+        || follows(rt, &map, &guard, 0),
+        || follows(rt, &map, &guard, 1),
     );
-    let left = first.len();
-    let same = few? && stored? <= FEW && shown(rt, &mut first, FEW)? == (left, 0);
-    first.clear(rt)?;
-    Ok(same && first.is_empty())
+    Ok(one? && other?)
+}
+
+/// Offers this value for each key, and answers the sum of those that are there then.
+pub(crate) fn settles<R: Wait>(rt: &R, session: &mut Own<'_>, value: u64) -> Told<u64> {
+    let mut sum = 0u64;
+    for key in 0..TURNS {
+        sum = u64::wrapping_add(sum, *session.get_or_insert(rt, key, value)?);
+    }
+    Ok(sum)
+}
+
+/// Tells whether two threads do so, and are lent the same values, one of the two for each key. A body that lends each its own value gives two sums.
+pub(crate) fn settle<R: Threads + Wait + Clock + Sync>(rt: &R, made: Told<Map>) -> Told<bool> {
+    let (one, other) = both(rt, &made?, Work::Settles(1), Work::Settles(2))?;
+    Ok(one == other && TURNS <= one && one <= 2 * TURNS)
 }

@@ -1,15 +1,14 @@
 //! Values that wait behind another one come back after it.
 ghost use Rattle.std.specs.Prelude.{◌≡◌, IfOk};
 
+use crate::{DropCounts, Told, dropped as at, table};
 use seize::rows::Defers;
 use seize_blocks::{Blocks, Home};
 use seize_guards::DeferringGuard;
 use seize_shared::{Fixed, OfRows, OwnedGuard, Registration};
-use seize_shared_tests::{DropCounts, dropped as at, table};
 use std::alloc::{AllocError, Global};
 use std::sync::atomic::Ordering::SeqCst;
 use std::sync::{Arc, Wait};
-use std::test::Fail;
 
 /// Batches of one block, and two roots.
 const TWO: Fixed = Fixed {
@@ -136,23 +135,19 @@ fn comes_back_alone<W: Wait>(
     Ok(comes_back(rt, &home.blocks, numbers, own))
 }
 
-#[test]
-fn values_wait_behind_another_one_and_come_back_after_it_the_last_first(
-    rt: HostRuntime,
-) -> Result<(), Fail> {
+/// Tells whether values wait behind another one, and come back after it, the last first.
+pub(crate) fn come_back<R: Wait>(rt: &R, alloc: Global) -> Told {
+    let mut all = true;
     for own in [false, true] {
-        let numbers = table(rt.alloc(), 5)?;
-        let came = comes_back_alone(&rt, rt.alloc(), &numbers, own)?;
-        assert_eq!(rt; came, (true, 0));
-        assert_eq!(rt;
-            (
-                at(&numbers, 1),
-                at(&numbers, 4),
-                at(&numbers, 3),
-                at(&numbers, 2)
-            ),
-            (1, 2, 3, 4)
-        );
+        let numbers = table(alloc, 5)?;
+        let came = comes_back_alone(rt, alloc, &numbers, own)? == (true, 0);
+        let order = [
+            at(&numbers, 1),
+            at(&numbers, 4),
+            at(&numbers, 3),
+            at(&numbers, 2),
+        ];
+        all = all && came && order == [1, 2, 3, 4];
     }
-    Ok(())
+    Ok(all)
 }

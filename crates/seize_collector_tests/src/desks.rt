@@ -1,16 +1,14 @@
 //! Several guards of one slot: its section begins with the first of them, and ends with the last, whichever that is.
 ghost use Rattle.std.specs.Prelude.{◌≡◌, IfSome};
 
-use crate::ground::CHOSEN;
+use crate::{CHOSEN, Counted, DropCounts, Told, dropped, opened, table};
 use seize::Fault;
 use seize_blocks::{Blocks, Home};
 use seize_collector::Shared;
 use seize_guards::{Desk, DeskGuard, MOST_GUARDS};
 use seize_shared::{OfRows, Owned, Registration, RootGuard, Unlinked};
-use seize_shared_tests::{Counted, DropCounts, dropped, opened, table};
 use std::alloc::{AllocError, Global};
 use std::mem;
-use std::test::Fail;
 
 /// How often a value was dropped: while two guards have seen it and it was retired; after one of them has ended; and after both.
 #[derive(Drop)]
@@ -70,17 +68,18 @@ fn both_end(
     Ok(ends(&home.blocks, drops, inner_first))
 }
 
-#[test]
-fn what_a_guard_has_seen_is_there_until_the_last_one_ends(rt: HostRuntime) -> Result<(), Fail> {
+/// Tells whether what a guard has seen is there until the last one of its desk ends.
+pub(crate) fn end(alloc: Global) -> Told {
+    let mut all = true;
     for inner_first in [true, false] {
-        let drops = table(rt.alloc(), 1)?;
-        let Some(times) = both_end(rt.alloc(), &drops, inner_first)? else {
-            return Err(Fail::new("a slot or memory was refused"));
+        let drops = table(alloc, 1)?;
+        let ends = match both_end(alloc, &drops, inner_first)? {
+            Some(times) => times.seen && (times.both, times.one, times.none) == (0, 0, 1),
+            None => false,
         };
-        assert!(rt; times.seen);
-        assert_eq!(rt; (times.both, times.one, times.none), (0, 0, 1));
+        all = all && ends;
     }
-    Ok(())
+    Ok(all)
 }
 
 /// Enters as many guards as a desk may have; tells whether they are there.
@@ -112,11 +111,10 @@ fn fills(alloc: Global, blocks: &Blocks<Counted, OfRows>) -> Option<(bool, bool)
     if all { Some((before, then)) } else { None }
 }
 
-#[test]
-fn a_desk_refuses_a_guard_where_it_has_the_most(rt: HostRuntime) -> Result<(), Fail> {
-    let home = Home::<Counted, OfRows>::open(rt.alloc(), 1, 8, &CHOSEN)?;
-    assert_eq!(rt; fills(rt.alloc(), &home.blocks), Some((true, true)));
-    Ok(())
+/// Tells whether a desk refuses a guard where it has the most.
+pub(crate) fn are_full(alloc: Global) -> Told {
+    let home = Home::<Counted, OfRows>::open(alloc, 1, 8, &CHOSEN)?;
+    Ok(fills(alloc, &home.blocks) == Some((true, true)))
 }
 
 /// A guard that has seen a value is forgotten, and another slot takes the value away and retires it; answers how often it was dropped, once the desk has ended.
@@ -147,14 +145,11 @@ fn forgets_one(alloc: Global, drops: &DropCounts) -> Result<Option<u64>, AllocEr
     Ok(forgets(&home.blocks, drops))
 }
 
-#[test]
-fn what_a_forgotten_guard_of_a_desk_has_seen_is_there_until_the_memory_ends(
-    rt: HostRuntime,
-) -> Result<(), Fail> {
-    let drops = table(rt.alloc(), 1)?;
-    assert_eq!(rt; forgets_one(rt.alloc(), &drops)?, Some(0));
-    assert_eq!(rt; dropped(&drops, 0), 1);
-    Ok(())
+/// Tells whether what a forgotten guard of a desk has seen is there until the memory ends.
+pub(crate) fn are_forgotten(alloc: Global) -> Told {
+    let drops = table(alloc, 1)?;
+    let before = forgets_one(alloc, &drops)?;
+    Ok(dropped(&drops, 0) == 1 && before == Some(0))
 }
 
 /// What was there is retired under a guard of a collector's desk that lends its value still, and another guard is there: how often it was dropped while it was
@@ -208,18 +203,11 @@ fn puts<'a>(owned: Owned<'a, Counted>) -> Option<Unlinked<'a, Counted>>
     }
 }
 
-/// The same over one collector, which ends then.
-fn retires_alone(alloc: Global, drops: &DropCounts) -> Result<Option<(u64, u64, u64)>, Fault> {
+/// Tells whether what is retired under guards that are lent is there until the last one ends.
+pub(crate) fn retire(alloc: Global) -> Told {
+    let drops = table(alloc, 2)?;
     let collector = opened(alloc)?;
-    Ok(retires(&collector.shared(), drops))
-}
-
-#[test]
-fn what_is_retired_under_guards_that_are_lent_is_there_until_the_last_one_ends(
-    rt: HostRuntime,
-) -> Result<(), Fail> {
-    let drops = table(rt.alloc(), 2)?;
-    assert_eq!(rt; retires_alone(rt.alloc(), &drops)?, Some((0, 0, 1)));
-    assert_eq!(rt; dropped(&drops, 1), 1);
-    Ok(())
+    let times = retires(&collector.shared(), &drops);
+    drop(collector);
+    Ok(dropped(&drops, 1) == 1 && times == Some((0, 0, 1)))
 }

@@ -2,24 +2,16 @@
 //! registration.
 ghost use Rattle.std.specs.Prelude.{◌≡◌};
 
+use crate::{CHOSEN, Counted, DropCounts, Told, dropped, table};
 use seize_blocks::{Blocks, Home};
 use seize_collector::reclaim_all;
-use seize_shared::{Fixed, Guard, OfRows, OwnedGuard, Registration, RootGuard};
-use seize_shared_tests::{Counted, DropCounts, dropped, table};
+use seize_shared::{Guard, OfRows, OwnedGuard, Registration, RootGuard};
 use std::alloc::{AllocError, Global};
-use std::test::Fail;
 use std::thread::Threads;
 use std::{mem, thread};
 
 /// How many values each of them puts.
 const EACH: usize = 50;
-
-/// What is chosen for the memory.
-const CHOSEN: Fixed = Fixed {
-    batch_size: 5,
-    roots: 1,
-    chains: 0,
-};
 
 /// How many values of all four were dropped, or none where one was dropped twice.
 fn sum(drops: &DropCounts) -> Option<u64> {
@@ -142,24 +134,19 @@ fn reclaims<R: Threads + Sync>(
     Ok((forgot && went, before, after, again, slot))
 }
 
-// Each of the two guards has put its values within one section, so none of those that it has retired was given back before.
-#[test]
-fn what_waits_behind_forgotten_guards_is_given_back_once(rt: HostRuntime) -> Result<(), Fail> {
-    let drops = table(rt.alloc(), 4 * EACH)?;
-    let (went, before, after, again, slot) = reclaims(&rt, rt.alloc(), &drops)?;
-    assert!(rt; went);
-    assert!(rt; matches!(before, Some(n) if n < 4 * EACH as u64 - 1));
-    assert_eq!(rt; after, Some(4 * EACH as u64 - 1));
-    assert_eq!(rt; again, Some(4 * EACH as u64 - 1));
-    assert_eq!(rt; slot, Some(0));
-    assert_eq!(rt; sum(&drops), Some(4 * EACH as u64));
-    Ok(())
+/// Tells whether what waits behind forgotten guards is given back once. Each of the two guards has put its values within one section, so none of those that it has retired was given back before.
+pub(crate) fn are_reclaimed<R: Threads + Sync>(rt: &R, alloc: Global) -> Told {
+    let drops = table(alloc, 4 * EACH)?;
+    let (went, before, after, again, slot) = reclaims(rt, alloc, &drops)?;
+    let (all, but_one) = (Some(4 * EACH as u64), Some(4 * EACH as u64 - 1));
+    let few = matches!(before, Some(n) if n < 4 * EACH as u64 - 1);
+    let last = sum(&drops);
+    Ok(went && few && [after, again, last] == [but_one, but_one, all] && slot == Some(0))
 }
 
-#[test]
-fn a_memory_that_was_never_used_is_emptied(rt: HostRuntime) -> Result<(), Fail> {
-    let mut home = Home::<Counted, OfRows>::open(rt.alloc(), 1, 0, &CHOSEN)?;
+/// Tells whether a memory that was never used is emptied.
+pub(crate) fn is_emptied(alloc: Global) -> Told {
+    let mut home = Home::<Counted, OfRows>::open(alloc, 1, 0, &CHOSEN)?;
     reclaim_all(&mut home, &CHOSEN);
-    assert_eq!(rt; visits(&home.blocks), Some(0));
-    Ok(())
+    Ok(visits(&home.blocks) == Some(0))
 }

@@ -1,13 +1,11 @@
 //! A struct of one's own that holds a registration, and a helper that takes a guard of any content.
 ghost use Rattle.std.specs.Prelude.{◌≡◌, true};
 
-use seize::Fault;
+use crate::{Counted, DropCounts, Told, all_are, dropped, opened, table};
 use seize::rows::Defers;
 use seize_collector::{Content, Guard, OfRows, Registration, RootGuard, Shared};
-use seize_shared_tests::{Counted, DropCounts, dropped, opened, table};
 use std::alloc::Global;
 use std::sync::Arc;
-use std::test::Fail;
 
 /// Who puts values, by a registration of its own.
 #[derive(Drop)]
@@ -55,25 +53,14 @@ fn two(collector: &Shared<'_, Counted>, drops: &DropCounts, own: DropCounts) -> 
     if put { Some(times) } else { None }
 }
 
-/// The same over one collector, which ends then.
-fn two_alone(
-    alloc: Global,
-    drops: &DropCounts,
-    own: DropCounts,
-) -> Result<Option<(u64, u64)>, Fault> {
-    let collector = opened(alloc)?;
-    Ok(two(&collector.shared(), drops, own))
-}
-
-#[test]
-fn a_struct_that_holds_a_registration_puts_values_and_drops_what_they_replace(
-    rt: HostRuntime,
-) -> Result<(), Fail> {
-    let drops = table(rt.alloc(), 2)?;
+/// Tells whether a struct that holds a registration puts values, and drops what they replace.
+pub(crate) fn hold(alloc: Global) -> Told {
+    let drops = table(alloc, 2)?;
     let Ok(own) = Arc::try_clone(&drops) else {
-        return Err(Fail::new("the table has too many owners"));
+        return Ok(false);
     };
-    assert_eq!(rt; two_alone(rt.alloc(), &drops, own)?, Some((1, 0)));
-    assert_eq!(rt; (dropped(&drops, 0), dropped(&drops, 1)), (1, 1));
-    Ok(())
+    let collector = opened(alloc)?;
+    let times = two(&collector.shared(), &drops, own);
+    drop(collector);
+    Ok(all_are(&drops, 2, 1) && times == Some((1, 0)))
 }

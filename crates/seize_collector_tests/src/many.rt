@@ -1,10 +1,8 @@
 //! More slots at once than the first bucket has.
-use seize::Fault;
+use crate::{Counted, DropCounts, Told, all_are, dropped, opened, table};
 use seize_collector::{Guard, OwnedGuard, Registration, RootGuard, Shared};
-use seize_shared_tests::{Counted, DropCounts, all_are, dropped, opened, table};
 use std::alloc::Global;
 use std::sync::atomic::Ordering::SeqCst;
-use std::test::Fail;
 use std::thread;
 use std::thread::Threads;
 
@@ -96,29 +94,16 @@ fn holds<R: Threads + Sync>(
     Some((all, half, all_are(drops, PUT, 1)))
 }
 
-/// The same over one collector, which ends then.
-fn holds_alone<R: Threads + Sync>(
-    rt: &R,
-    alloc: Global,
-    drops: &DropCounts,
-    slots: &DropCounts,
-) -> Result<Option<(bool, bool, bool)>, Fault> {
+/// Tells whether forty guards at once have slots of their own, and hold what they see.
+pub(crate) fn hold<R: Threads + Sync>(rt: &R, alloc: Global) -> Told {
+    let (drops, slots) = (table(alloc, PUT + 1)?, table(alloc, 2 * EACH + 1)?);
     let collector = opened(alloc)?;
-    Ok(holds(rt, alloc, &collector.shared(), drops, slots))
-}
-
-#[test]
-fn forty_guards_at_once_have_slots_of_their_own_and_hold_what_they_see(
-    rt: HostRuntime,
-) -> Result<(), Fail> {
-    let drops = table(rt.alloc(), PUT + 1)?;
-    let slots = table(rt.alloc(), 2 * EACH + 1)?;
-    let held = holds_alone(&rt, rt.alloc(), &drops, &slots)?;
-    assert_eq!(rt; held, Some((true, true, true)));
-    assert_eq!(rt; dropped(&slots, 0), 0);
+    let held = holds(rt, alloc, &collector.shared(), &drops, &slots);
+    drop(collector);
+    let mut all = all_are(&drops, PUT + 1, 1) && dropped(&slots, 0) == 0;
     for slot in 1..2 * EACH + 1 {
-        assert_eq!(rt; dropped(&slots, slot), 1);
+        let once = dropped(&slots, slot) == 1;
+        all = all && once;
     }
-    assert!(rt; all_are(&drops, PUT + 1, 1));
-    Ok(())
+    Ok(all && held == Some((true, true, true)))
 }

@@ -2,11 +2,10 @@
 //! ends.
 ghost use Rattle.std.specs.Prelude.{◌<◌, ◌≡◌};
 
+use crate::{Counted, DropCounts, Told, all_are, table};
 use seize::Fault;
 use seize_collector::{Collector, IdSource, OwnedGuard, Pass, Shared};
-use seize_shared_tests::{Counted, DropCounts, all_are, table};
 use std::alloc::Global;
-use std::test::Fail;
 use std::thread;
 use std::thread::Threads;
 
@@ -92,12 +91,9 @@ fn two_alone<R: Threads + Sync>(
     two_go(rt, &collector.shared(), drops)
 }
 
-#[test]
-fn what_passes_retire_under_a_guard_is_there_until_it_ends(rt: HostRuntime) -> Result<(), Fail> {
-    let drops = table(rt.alloc(), 2 * TIMES)?;
-    let (went, kept) = two_alone(&rt, rt.alloc(), &drops)?;
-    assert!(rt; went);
-    assert!(rt; kept);
-    assert!(rt; all_are(&drops, 2 * TIMES, 1));
-    Ok(())
+/// Tells whether what passes retire under a guard is there until it ends.
+pub(crate) fn retire<R: Threads + Sync>(rt: &R, alloc: Global) -> Told {
+    let drops = table(alloc, 2 * TIMES)?;
+    let (went, kept) = two_alone(rt, alloc, &drops)?;
+    Ok([went, kept, all_are(&drops, 2 * TIMES, 1)] == [true; 3])
 }

@@ -1,6 +1,6 @@
 use Rattle.std.specs.Prelude.{None}
 use Rattle.seize_views.proofs.Views.Notes.{rules_start}
-use Rattle.seize_shared_tests.specs.declared.Counted.{Counted}
+use Rattle.seize_collector_tests.specs.declared.Counted.{Counted}
 use Rattle.seize_collector_tests.proofs.forgotten.reclaims.Goals as goal
 
 pub open-requires-clause-starts : goal.open-requires-clause-starts

@@ -1,7 +1,0 @@
-use Rattle.std.specs.Prelude.{None}
-use Rattle.seize_views.proofs.Views.Notes.{rules_start}
-use Rattle.seize_shared_tests.specs.declared.Counted.{Counted}
-use Rattle.seize_collector_tests.proofs.desks.a_desk_refuses_a_guard_where_it_has_the_most.Goals as goal
-
-pub open-requires-clause-starts : goal.open-requires-clause-starts
-open-requires-clause-starts g c = rules_start Counted (λ _. None) (record { batch_size = 5; roots = 1; chains = 0 })
