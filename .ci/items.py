@@ -8,8 +8,8 @@ import re
 import sys
 
 TOP = os.path.dirname(os.path.dirname(os.path.abspath(__file__)))
-CRATES = ("papaya_sessions", "papaya_map", "papaya", "papaya_json")
-TESTS = ("papaya_tests", "papaya_json_tests")
+CRATES = ("papaya_sessions", "papaya_map", "papaya_maps", "papaya", "papaya_json")
+TESTS = ("papaya_tests", "papaya_maps_tests", "papaya_json_tests")
 HEAD = "| `papaya` | here | |"
 TYPE = r"(?:<[^{]*?>\s+)?(?:[\w:]+(?:<.*?>)?\s+for\s+)?(\w+)"
 
@@ -41,7 +41,7 @@ def texts(crates):
 
 
 def code():
-    """The public items of the three crates."""
+    """The public items of these crates."""
     return set().union(*map(public, texts(CRATES)))
 
 
