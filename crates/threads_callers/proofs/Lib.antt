@@ -1,6 +1,6 @@
 pub mod Rows
 mod Newcomers
-mod Passing
+pub mod Passing
 pub mod Known
 pub mod Named
 pub mod Answered
