@@ -1,3 +1,4 @@
 pub mod Sources
 pub mod Calls
 pub mod Sessions
+pub mod Sets

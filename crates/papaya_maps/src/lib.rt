@@ -7,6 +7,7 @@ mod map;
 mod pass;
 mod reclaiming;
 mod session;
+mod set;
 
 pub use collector::{CollectorMapBuilder, SharedCollector};
 pub use guard::{CollectorGuard, CollectorRegistration};
@@ -14,6 +15,7 @@ pub use map::CollectorMap;
 pub use map_tables::{Equivalent, Hashes};
 pub use pass::CollectorPass;
 pub use seize::IdSource;
-pub use seize_words::{Fault, Refused};
+pub use seize_words::{Fault, Refused, RefusedKey};
 pub use session::CollectorSession;
+pub use set::CollectorSet;
 pub use threads_callers::{Attempt, Form};

@@ -81,6 +81,34 @@ fn dropped<R: Wait>(rt: &R, alloc: Global) -> Told<bool> {
     Ok(first == [0, 3] && then == [4, 3])
 }
 
+/// Tells whether two sets of one collector have elements of their own, and what was lent of the one is still there once the other one has ended.
+fn sets<R: Wait>(rt: &R, alloc: Global) -> Told<bool> {
+    let mut ids = IdSource::new();
+    let shared: SharedCollector<u64, (), Hashing> = SharedCollector::new(alloc, &mut ids, 1, 2)?;
+    let a = shared.builder(Hashing::default()).build_set()?;
+    let b = shared.builder(Hashing::default()).build_set()?;
+    let guard = shared.guard()?;
+    let mut pass = shared.pass();
+    let new = [
+        a.insert(rt, 1, &guard, &mut pass)?,
+        a.insert(rt, 1, &guard, &mut pass)?,
+        b.insert(rt, 2, &guard, &mut pass)?,
+    ];
+    let lent = a.get(rt, &1, &guard, &mut pass)?;
+    let there = [
+        a.contains(rt, &1, &guard, &mut pass)?,
+        a.contains(rt, &2, &guard, &mut pass)?,
+    ];
+    let count = a.len(&guard, &mut pass)?;
+    drop(b);
+    let taken = [
+        a.remove(rt, &1, &guard, &mut pass)?,
+        a.remove(rt, &1, &guard, &mut pass)?,
+    ];
+    let so = new == [true, false, true] && there == [true, false] && taken == [true, false];
+    Ok(so && count == 1 && lent.copied() == Some(1))
+}
+
 /// Stores these keys, each with itself as its value.
 fn stores<R: Wait>(rt: &R, session: &mut Own<'_, '_>, first: u64, last: u64) -> Told<()> {
     for key in first..last {
@@ -185,6 +213,8 @@ fn all<R: Threads + Wait + Sync + Print>(rt: &R, alloc: Global) -> io::Result<bo
         "an ended map drops its values, each once, and no other ones",
         so,
     )? && is_so;
+    let so = sets(rt, alloc);
+    is_so = tells(rt, "sets of one collector have elements of their own", so)? && is_so;
     let so = foreign(rt, &shared, &other);
     is_so = tells(
         rt,
