@@ -173,7 +173,7 @@ fn foreign<R: Wait>(rt: &R, shared: &Shared, other: &Shared) -> Told<bool> {
 fn leaves<R: Wait>(rt: &R, shared: &Shared) -> Told<()> {
     let map = shared.builder(Hashing::default()).copies(1).build()?;
     let mut session = map.session()?;
-    stores(rt, &mut session, 0, 33)?;
+    stores(rt, &mut session, 0, 42)?;
     for key in 0..16 {
         let _ = session.remove(rt, &key)?;
     }
