@@ -10,7 +10,7 @@ use Rattle.threads_owners.specs.Loans.{IsLentIf, names_of}
 use Rattle.papaya_maps.proofs.Calls.{lacked_on, none_lent, refused_on, told_on}
 use Rattle.papaya_maps.proofs.Small.{small}
 use Rattle.threads_callers.proofs.Answered.{came_back, one_back}
-use Rattle.papaya_maps.proofs.map.keys.CollectorMap.tries.Goals as goal
+use Rattle.papaya_maps.proofs.map.CollectorMap.tries.Goals as goal
 
 pub stores-done-requires : goal.stores-done-requires
 stores-done-requires g c = record { pass = c.requires.pass; guard = c.requires.guard; puts = tt }
