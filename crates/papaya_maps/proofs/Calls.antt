@@ -53,11 +53,6 @@ pub values : {A K V : Type 0} (now : A → K × V) (answer : Option A) → optio
 values now None = refl
 values now (Some a) = refl
 
--- and there is one just where one was looked through
-pub still_some : {A B : Type 0} (now : A → B) (answer : Option A) → is_some answer ≡ is_some (option_map now answer)
-still_some now None = refl
-still_some now (Some a) = refl
-
 module _ {K V S : Type 0} (same : K → K → Bool) (hash : S → K → ℕ) (guard owner : MapCaller K V S) (small : guard.blocks.now.words.fixed.batch_size < 2 ^ 64) (v w : View K V S) where
   abbrev fixed : Fixed
   fixed = guard.blocks.now.words.fixed

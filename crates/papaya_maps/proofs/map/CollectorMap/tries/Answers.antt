@@ -41,9 +41,9 @@ returns-in-Some-clause-tried g c =
     let m = c.args.self.now in let k = c.args.guard.now in let d = c.stores-done.result in let lent = c.stores-done.ensures.stored in let v = c.args.pass.now.seat.seat.view in let w = c.stores-done.new.pass.seat.seat.view in
     let short = small k.caller.blocks.now.words.fixed.batch_size k.small in
     let told = ap (λ p. p.0.told) (sym c.parts-ran.ensures) ∙ c.in-Ok.is in let on = told_on g.K.PartialEq.eq g.S.Hashes.hash k.caller m.owner short v w told lent.on in
-    let pair = c.in-Some.field-0 in (
-      pair.0.now,
-      lacked_on g.K.PartialEq.eq g.S.Hashes.hash k.caller m.owner short v w c.args.key c.args.value (has_stored c.came_of.result) c.in-Ok.answer (pair.0.now, pair.1.now) on c.came_of.ensures.stored
+    let found = c.in-Some.field-0-0.now in (
+      found,
+      lacked_on g.K.PartialEq.eq g.S.Hashes.hash k.caller m.owner short v w c.args.key c.args.value (has_stored c.came_of.result) c.in-Ok.answer (found, c.in-Some.lent.now) on c.came_of.ensures.stored
           (subst (λ o. IsLentIf g.K.PartialEq.eq g.S.Hashes.hash k.caller m.owner on.knew (pair_there c.in-Ok.answer) (option_map (λ pair. (pair.0.now, pair.1.now)) o)) (ap (λ p. p.2) (sym c.parts-ran.ensures) ∙ c.in-Some.is)
           (subst (λ (r : Result Answer Fault). IsLentIf g.K.PartialEq.eq g.S.Hashes.hash k.caller m.owner on.knew (names_of r).1 (option_map (λ pair. (pair.0.now, pair.1.now)) d.there)) told lent.there)),
     )
