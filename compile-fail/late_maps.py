@@ -70,7 +70,7 @@ def program():
             of = f"{name}_{'early' if kind is early else 'late'}"
             text += function(of, TAKES, begin + rest)
             (early if (name, ends) in STAYS else kind)[of] = text[: text.rindex(ends)].count("\n") + 1
-    for name, takes, first, ends in (("session", "map: Map<'_>", "let session = map.session();", "drop(map);"), ("collector", "shared: Shared", "let session = shared.guard();", "drop(shared);"),
+    for name, takes, first, ends in (("session", "map: Map<'_>, guard: Guard<'_>", "let session = map.session(&guard);", "drop(map);"), ("collector", "shared: Shared", "let session = shared.guard();", "drop(shared);"),
                                      ("maps", "shared: Shared", "let session = shared.builder(Hashing::default()).build();", "drop(shared);")):
         for kind, rest in ((early, ["drop(session);", ends]), (late, [ends, "drop(session);"])):
             of = f"{name}_{'early' if kind is early else 'late'}"

@@ -1,5 +1,5 @@
 //! A hash map, lent to threads, each of which may begin sessions on it.
-ghost use Rattle.std.specs.Prelude.{◌≡◌, ◌^◌, [], Some, true, IfOk, nat_lt};
+ghost use Rattle.std.specs.Prelude.{◌≡◌, ◌^◌, [], Some, None, true, IfOk, nat_lt};
 ghost use Rattle.papaya_sessions.specs.Given.CallersStanding.{known_by};
 
 mod changing;

@@ -1,5 +1,5 @@
 -- That what a call on a map has come to is so in one finite map: by the newest call of the pass, by what it knew as that had ended.
-use Rattle.std.specs.Prelude.{◌<◌, ◌^◌, Option, Some, None, Result, Ok, Err, IfSome, is_some, option_map}
+use Rattle.std.specs.Prelude.{◌<◌, ◌^◌, Option, Some, None, Result, Ok, Err, IfSome, IsSome, is_some, option_map}
 use Rattle.std.proofs.Common.{◌≡◌, ◌∙◌, ℕ, Bool, refl, sym, subst, ap}
 use Rattle.papaya_raw.specs.declared.machines.answer.KeyAnswer.TheVariants as answers
 use Rattle.papaya_raw.specs.declared.machines.progress.Answer.{Answer}
@@ -52,11 +52,6 @@ if_mapped f (Some word) it result is = ap (option_map f) is
 pub values : {A K V : Type 0} (now : A → K × V) (answer : Option A) → option_map (λ a. (now a).1) answer ≡ option_map (λ p. p.1) (option_map now answer)
 values now None = refl
 values now (Some a) = refl
-
--- and there is one just where one was looked through
-pub still_some : {A B : Type 0} (now : A → B) (answer : Option A) → is_some answer ≡ is_some (option_map now answer)
-still_some now None = refl
-still_some now (Some a) = refl
 
 module _ {K V S : Type 0} (same : K → K → Bool) (hash : S → K → ℕ) (guard owner : MapCaller K V S) (small : guard.blocks.now.words.fixed.batch_size < 2 ^ 64) (v w : View K V S) where
   abbrev fixed : Fixed
@@ -188,6 +183,10 @@ module _ {K V S : Type 0} (same : K → K → Bool) (hash : S → K → ℕ) (gu
   is_there knew None (Some pair) lent = absurd lent
   is_there knew (Some word) None lent = absurd lent
   is_there knew (Some word) (Some pair) lent = refl
+
+  pub none_lent : (knew : View K V S) (word : Option ℕ) → IsSome word → IsLentIf same hash guard owner knew word None → ⊥
+  none_lent knew (Some word) some lent = lent
+  none_lent knew None some lent = absurd (cc some)
 
   -- and what is so of each that is shown by this word is so of that one
   by_pair : {So : K × V → Type 0} (knew : View K V S) (word : Option ℕ) (pair : Option (K × V)) → IsLentIf same hash guard owner knew word pair

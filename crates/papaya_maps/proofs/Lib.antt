@@ -1,5 +1,6 @@
 mod Calls
 mod Ends
 mod May
+mod Sets
 mod Small
 mod Storing

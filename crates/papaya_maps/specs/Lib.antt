@@ -1,4 +1,3 @@
 pub mod Sources
 pub mod Calls
-pub mod Sessions
 pub mod Sets

@@ -1,7 +1,7 @@
 //! Says of maps that share a collector what they were seen to do, a line each. Ends with an error where one line is not so.
 #![tactic(auto)]
 
-use papaya_maps::{CollectorMap, CollectorSession, Fault, IdSource, SharedCollector};
+use papaya_maps::{CollectorSession, Fault, IdSource, SharedCollector};
 use std::alloc::Global;
 use std::hash::{BuildHasherDefault, DefaultHasher};
 use std::io;
@@ -14,9 +14,7 @@ type Hashing = BuildHasherDefault<DefaultHasher>;
 
 type Shared = SharedCollector<u64, u64, Hashing>;
 
-type Map<'c> = CollectorMap<'c, u64, u64, Hashing>;
-
-type Own<'m, 'c> = CollectorSession<'m, 'c, u64, u64, Hashing>;
+type Own<'g, 'c> = CollectorSession<'g, 'c, u64, u64, Hashing>;
 
 type Told<T> = Result<T, Fault>;
 
@@ -66,14 +64,17 @@ fn dropped<R: Wait>(rt: &R, alloc: Global) -> Told<bool> {
     let stays = shared.builder(Hashing::default()).build()?;
     let ends = shared.builder(Hashing::default()).build()?;
     let guard = shared.guard()?;
-    let mut pass = shared.pass();
+    let mut here = stays.session(&guard)?;
+    let mut there = ends.session(&guard)?;
     for key in 0..3 {
-        let _ = stays.insert(rt, key, Counted(&one), &guard, &mut pass)?;
-        let _ = ends.insert(rt, key, Counted(&other), &guard, &mut pass)?;
+        let _ = here.insert(rt, key, Counted(&one))?;
+        let _ = there.insert(rt, key, Counted(&other))?;
     }
-    let _ = stays.insert(rt, 0, Counted(&one), &guard, &mut pass)?;
+    let _ = here.insert(rt, 0, Counted(&one))?;
+    drop(there);
     drop(ends);
     let first = [one.load(SeqCst), other.load(SeqCst)];
+    drop(here);
     drop(guard);
     drop(stays);
     shared.reclaim_all();
@@ -128,18 +129,20 @@ fn finds<R: Wait>(rt: &R, session: &mut Own<'_, '_>, first: u64, last: u64) -> u
     count
 }
 
-/// Fills this map, and ends it.
-fn lives<R: Wait>(rt: &R, map: Map<'_>) -> Told<u64> {
-    let mut session = map.session()?;
+/// Makes a map, fills it, and ends it.
+fn lives<R: Wait>(rt: &R, shared: &Shared) -> Told<u64> {
+    let map = shared.builder(Hashing::default()).copies(1).build()?;
+    let guard = shared.guard()?;
+    let mut session = map.session(&guard)?;
     stores(rt, &mut session, 0, 200)?;
     Ok(finds(rt, &mut session, 0, 200))
 }
 
-/// Tells whether one map goes on while others come and end on another thread.
+/// Tells whether one map goes on while another one comes and ends on another thread.
 fn go_on<R: Threads + Wait + Sync>(rt: &R, shared: &Shared) -> Told<bool> {
     let map = shared.builder(Hashing::default()).copies(1).build()?;
-    let other = shared.builder(Hashing::default()).copies(1).build()?;
-    let mut session = map.session()?;
+    let guard = shared.guard()?;
+    let mut session = map.session(&guard)?;
     stores(rt, &mut session, 0, 100)?;
     let (here, there) = thread::join(
         rt,
@@ -148,7 +151,7 @@ fn go_on<R: Threads + Wait + Sync>(rt: &R, shared: &Shared) -> Told<bool> {
             let stored = stores(rt, &mut session, 100, 300);
             (stored.is_ok(), finds(rt, &mut session, 0, 300))
         },
-        || lives(rt, other),
+        || lives(rt, shared),
     );
     Ok(here == (true, 300) && there? == 200)
 }
@@ -172,7 +175,8 @@ fn foreign<R: Wait>(rt: &R, shared: &Shared, other: &Shared) -> Told<bool> {
 /// Leaves a map of this collector that grows, as its first table has 32 places, and from which keys were removed that had been copied by then.
 fn leaves<R: Wait>(rt: &R, shared: &Shared) -> Told<()> {
     let map = shared.builder(Hashing::default()).copies(1).build()?;
-    let mut session = map.session()?;
+    let guard = shared.guard()?;
+    let mut session = map.session(&guard)?;
     stores(rt, &mut session, 0, 42)?;
     for key in 0..16 {
         let _ = session.remove(rt, &key)?;

@@ -1,4 +1,5 @@
-use Rattle.std.proofs.Common.{◌≡◌, refl, sym, subst, ap, ◌∙◌}
+use Rattle.std.proofs.Common.{◌≡◌, false, refl, sym, subst, ap, ◌∙◌}
+use Rattle.papaya_raw.specs.EndMap.{ending}
 use Rattle.papaya_raw.specs.declared.machines.end_map.EndMap.{EndMap}
 use Rattle.threads_steps.specs.Given.ActsLefts.{is_along}
 use Rattle.threads_steps.specs.Given.ViewsDeclared.view.View.{View}
@@ -22,7 +23,8 @@ ends_by-requires g c =
     record {
       ends =
           subst (λ (m : EndMap). IsEnding m c.new-within.result.seat.now.view) (sym c.new.ensures)
-          (subst (λ (v : View g.row.K.Denot g.row.V.Denot g.row.S.Denot). IsEnding _ v) (sym before) (begun_by c.args.self.setting c.args.seat.now.view c.begins.new.seat.view c.requires.2.2 c.begins.ensures.begins));
+          (subst (λ (v : View g.row.K.Denot g.row.V.Denot g.row.S.Denot). IsEnding (ending c.args.self.setting false) v) (sym before)
+          (begun_by c.args.self.setting c.args.seat.now.view c.begins.new.seat.view c.requires.2.2 c.begins.ensures.begins));
       off = ap (λ (m : EndMap). is_along m.stands) c.new.ensures;
     }
 

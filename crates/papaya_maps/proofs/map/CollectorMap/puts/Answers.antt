@@ -10,7 +10,7 @@ use Rattle.papaya_maps.specs.Calls.{IsIf}
 use Rattle.papaya_maps.proofs.Calls.{came_to_have_on, if_mapped, refused_on, replaced_gone, told_on, values}
 use Rattle.papaya_maps.proofs.Small.{small}
 use Rattle.threads_callers.proofs.Answered.{one_back}
-use Rattle.papaya_maps.proofs.map.keys.CollectorMap.puts.Goals as goal
+use Rattle.papaya_maps.proofs.map.CollectorMap.puts.Goals as goal
 
 pub stores-done-requires : goal.stores-done-requires
 stores-done-requires g c = record { pass = c.requires.pass; guard = c.requires.guard; puts = tt }

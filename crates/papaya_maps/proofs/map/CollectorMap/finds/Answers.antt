@@ -7,7 +7,7 @@ use Rattle.papaya_maps.specs.Calls.{MapHadOn}
 use Rattle.papaya_maps.proofs.Ends.{finds_end}
 use Rattle.papaya_maps.proofs.May.{alone_in, its_known, look_too, may_on, on_both}
 use Rattle.papaya_maps.proofs.Small.{small}
-use Rattle.papaya_maps.proofs.map.keys.CollectorMap.finds.Goals as goal
+use Rattle.papaya_maps.proofs.map.CollectorMap.finds.Goals as goal
 
 pub lends-done-requires : goal.lends-done-requires
 lends-done-requires g c =

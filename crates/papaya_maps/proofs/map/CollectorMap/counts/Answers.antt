@@ -6,7 +6,7 @@ use Rattle.papaya_maps.proofs.Ends.{counts_end}
 use Rattle.papaya_maps.proofs.May.{alone_in, count_too, its_bits, its_known, may_on, on_both}
 use Rattle.papaya_maps.proofs.Small.{small}
 use Rattle.threads_calls.proofs.Whole.{may_count}
-use Rattle.papaya_maps.proofs.map.keys.CollectorMap.counts.Goals as goal
+use Rattle.papaya_maps.proofs.map.CollectorMap.counts.Goals as goal
 
 pub lends-done-requires : goal.lends-done-requires
 lends-done-requires g c =

@@ -3,7 +3,7 @@ use Rattle.std.proofs.Common.{ap, refl, sym, ◌∙◌}
 use Rattle.papaya_maps.proofs.Ends.{call_ends}
 use Rattle.papaya_maps.proofs.May.{alone_in, call_too, its_bits, its_known, may_on, on_both}
 use Rattle.papaya_maps.proofs.Storing.{may_store}
-use Rattle.papaya_maps.proofs.map.keys.CollectorMap.stores.Goals as goal
+use Rattle.papaya_maps.proofs.map.CollectorMap.stores.Goals as goal
 
 pub lends-done-requires : goal.lends-done-requires
 lends-done-requires g c =

@@ -12,7 +12,7 @@ use Rattle.papaya_maps.proofs.May.{alone_in, call_too, its_bits, its_known, may_
 use Rattle.papaya_maps.specs.Calls.{IsIf}
 use Rattle.threads_calls.proofs.Keys.{may_remove}
 use Rattle.threads_callers.specs.Answers.{removed_by}
-use Rattle.papaya_maps.proofs.map.keys.CollectorMap.takes.Goals as goal
+use Rattle.papaya_maps.proofs.map.CollectorMap.takes.Goals as goal
 
 pub lends-done-requires : goal.lends-done-requires
 lends-done-requires g c =
