@@ -110,11 +110,13 @@ impl<'c, K: Eq + Hash + Drop, S: Hashes<K> + Drop> CollectorSet<'c, K, S> {
     {
         match self.map.insert(rt, key, (), guard, pass) {
             Ok(old) => Ok(old.is_none()),
-            Err(Refused {
-                fault,
-                key,
-                value: (),
-            }) => Err(RefusedKey { fault, key }),
+            Err(
+                Refused {
+                    fault,
+                    key,
+                    value: (),
+                },
+            ) => Err(RefusedKey { fault, key }),
         }
     }
 
