@@ -17,18 +17,16 @@ pub(crate) use storing::Put;
 use threads_steps::OfMaps;
 
 /// A seat of maps on an errand, with the memory. It is a memory for code that makes the operations of the call that the seat has under way, and
-/// knows at which place the block is whose own words it has read last, and at which one that whose it has written: where places are copied these are two tables.
+/// knows at which place the block is whose own words it has had last.
 #[derive(Drop)]
 pub struct Ahead<'a, K: Eq, V, S: Hashes<K>> {
     blocks: &'a Blocks<Node<K, V>, OfMaps<S>>,
     seat: &'a mut Seat<Node<K, V>, OfMaps<S>>,
     near: u64,
     place: Place<Node<K, V>>,
-    written: Place<Node<K, V>>,
     ghost own: { seat.now.base ≡ blocks.now.words.id.views_name },
     ghost away: { seat.now.away ≢ None },
     ghost found: { IsFound blocks.now.words.id place } by { Prim.hlevel (props, in_block_prop) },
-    ghost writes: { IsFound blocks.now.words.id written } by { Prim.hlevel (props, in_block_prop) },
 }
 
 impl<'a, K: Eq, V, S: Hashes<K>> Ahead<'a, K, V, S> {
@@ -50,7 +48,6 @@ impl<'a, K: Eq, V, S: Hashes<K>> Ahead<'a, K, V, S> {
             seat,
             near,
             place: blocks.place(),
-            written: blocks.place(),
         }
     }
 }

@@ -29,7 +29,7 @@ impl<'a, K: Eq, V, S: Hashes<K>> Memory<Node<K, V>> for Ahead<'a, K, V, S> {
     fn store(&mut self, at: At, word: u64) {
         self.catches_up();
         self.blocks
-            .store_by(&mut *self.seat, &mut self.written, at, word);
+            .store_by(&mut *self.seat, &mut self.place, at, word);
     }
 
     #[inline(always)]
@@ -48,7 +48,7 @@ impl<'a, K: Eq, V, S: Hashes<K>> Memory<Node<K, V>> for Ahead<'a, K, V, S> {
     fn or(&mut self, at: At, bits: u64) -> u64 {
         self.catches_up();
         self.blocks
-            .or_by(&mut *self.seat, &mut self.written, at, bits)
+            .or_by(&mut *self.seat, &mut self.place, at, bits)
     }
 
     #[inline(always)]
