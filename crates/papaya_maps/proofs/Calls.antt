@@ -1,6 +1,6 @@
 -- That what a call on a map has come to is so in one finite map: by the newest call of the pass, by what it knew as that had ended.
 use Rattle.std.specs.Prelude.{◌<◌, ◌^◌, Option, Some, None, Result, Ok, Err, IfSome, IsSome, is_some, option_map}
-use Rattle.std.proofs.Common.{◌≡◌, ◌∙◌, ℕ, Bool, refl, sym, subst, ap}
+use Rattle.std.proofs.Common.{◌≡◌, ◌∙◌, ℕ, Bool, true, refl, sym, subst, ap}
 use Rattle.papaya_raw.specs.declared.machines.answer.KeyAnswer.TheVariants as answers
 use Rattle.papaya_raw.specs.declared.machines.progress.Answer.{Answer}
 use Rattle.papaya_raw.specs.declared.machines.progress.Answer.TheVariants as said
@@ -58,8 +58,8 @@ module _ {K V S : Type 0} (same : K → K → Bool) (hash : S → K → ℕ) (gu
   fixed = guard.blocks.now.words.fixed
 
   -- the run that a call is which was to do this on a map, and has told that
-  abbrev run_of : {x y : View K V S} (wanted : Wanted K V) (told : Progress (Node K V)) → HasRun same hash wanted told x y → BegunCall K V
-  run_of wanted told run = record { map = run.0.number; began = machine_for same hash run.0 run.1 wanted; told = told }
+  abbrev run_of : (x y : View K V S) (wanted : Wanted K V) (told : Progress (Node K V)) → HasRun same hash wanted told x y → BegunCall K V
+  run_of x y wanted told run = record { map = run.0.number; began = machine_for same hash run.0 run.1 wanted; told = told }
 
   module _ (x knew : View K V S) (stays : StaysThere x knew) where
     -- it acts in the same section still
@@ -68,56 +68,56 @@ module _ {K V S : Type 0} (same : K → K → Bool) (hash : S → K → ℕ) (gu
 
     none_so : (key : K) → HasRun same hash (Get key) (found_of None) x knew → (id : ℕ) → FoundNone same hash fixed id knew key
     none_so key run id =
-        found_none same hash fixed small id run.1 knew run.0 (run_of (Get key) (found_of None) run) x.calls (stays.map ∙ run.2) (section run.1 run.3) run.4 refl key refl refl
+        found_none same hash fixed small id run.1 knew run.0 (run_of x knew (Get key) (found_of None) run) x.calls (stays.map ∙ run.2) (section run.1 run.3) run.4 refl key refl refl
 
     value_so : (key : K) (word : ℕ) (pair : K × V) → shown_in knew.held (block_in word) ≡ Some (Pair pair.0 pair.1) → HasRun same hash (Get key) (found_of (Some word)) x knew
         → (id : ℕ) → FoundValue same hash fixed id knew key pair.1
     value_so key word pair shown run id =
-        found_value same hash fixed small id run.1 knew run.0 (run_of (Get key) (found_of (Some word)) run) x.calls (stays.map ∙ run.2) (section run.1 run.3) run.4 refl key word pair.0 pair.1 refl refl shown
+        found_value same hash fixed small id run.1 knew run.0 (run_of x knew (Get key) (found_of (Some word)) run) x.calls (stays.map ∙ run.2) (section run.1 run.3) run.4 refl key word pair.0 pair.1 refl refl shown
 
     inserted_so : (key : K) (value : V) (answer : Answer) → HasRun same hash (Insert key value) (outcome_of (Ok answer)) x knew
         → (id : ℕ) → HasInserted same hash fixed id knew key value (is_replaced answer)
     inserted_so key value answer run id =
-        has_inserted same hash fixed small id run.1 knew run.0 (run_of (Insert key value) (outcome_of (Ok answer)) run) x.calls (stays.map ∙ run.2) (section run.1 run.3) run.4 refl key value answer refl refl
+        has_inserted same hash fixed small id run.1 knew run.0 (run_of x knew (Insert key value) (outcome_of (Ok answer)) run) x.calls (stays.map ∙ run.2) (section run.1 run.3) run.4 refl key value answer refl refl
         is_replaced (λ old new. refl) (λ new. refl)
 
     replaced_so : (key : K) (value : V) (answer : Answer) (word : ℕ) (pair : K × V) → replaced_by answer ≡ Some word → shown_in knew.held (block_in word) ≡ Some (Pair pair.0 pair.1)
         → HasRun same hash (Insert key value) (outcome_of (Ok answer)) x knew → (id : ℕ) → HasReplacedPair same hash fixed id knew key value pair
     replaced_so key value answer word pair names shown run id =
         let one = replaced_one answer word names in
-        has_replaced_pair same hash fixed small id run.1 knew run.0 (run_of (Insert key value) (outcome_of (Ok answer)) run) x.calls (stays.map ∙ run.2) (section run.1 run.3) run.4 refl key value word one.0
+        has_replaced_pair same hash fixed small id run.1 knew run.0 (run_of x knew (Insert key value) (outcome_of (Ok answer)) run) x.calls (stays.map ∙ run.2) (section run.1 run.3) run.4 refl key value word one.0
         pair.0 pair.1 refl (ap (λ (a : Answer). outcome_of {T = Node K V} (Ok a)) one.1) shown
 
     tried_so : (key : K) (value : V) (answer : Answer) → HasRun same hash (TryToInsert key value) (outcome_of (Ok answer)) x knew
         → (id : ℕ) → HasTried same hash fixed id knew key value (is_put answer)
     tried_so key value answer run id =
-        has_tried same hash fixed small id run.1 knew run.0 (run_of (TryToInsert key value) (outcome_of (Ok answer)) run) x.calls (stays.map ∙ run.2) (section run.1 run.3) run.4 refl key value answer refl refl
+        has_tried same hash fixed small id run.1 knew run.0 (run_of x knew (TryToInsert key value) (outcome_of (Ok answer)) run) x.calls (stays.map ∙ run.2) (section run.1 run.3) run.4 refl key value answer refl refl
         is_put (λ new. refl) (λ word. refl)
 
     one_so : (key : K) (value : V) (answer : Answer) (word : ℕ) (pair : K × V) → pair_there answer ≡ Some word → shown_in knew.held (block_in word) ≡ Some (Pair pair.0 pair.1)
         → HasRun same hash (TryToInsert key value) (outcome_of (Ok answer)) x knew → (id : ℕ) → HasOne same hash fixed id knew key value pair.1
     one_so key value answer word pair names shown run id =
-        has_one same hash fixed small id run.1 knew run.0 (run_of (TryToInsert key value) (outcome_of (Ok answer)) run) x.calls (stays.map ∙ run.2) (section run.1 run.3) run.4 refl key value answer word
+        has_one same hash fixed small id run.1 knew run.0 (run_of x knew (TryToInsert key value) (outcome_of (Ok answer)) run) x.calls (stays.map ∙ run.2) (section run.1 run.3) run.4 refl key value answer word
         pair.0 pair.1 refl refl names shown
 
     removed_so : (key : K) (answer : Answer) → HasRun same hash (Remove key) (outcome_of (Ok answer)) x knew → (id : ℕ) → HasRemoved same hash fixed id knew key (is_removed answer)
     removed_so key answer run id =
-        has_removed same hash fixed small id run.1 knew run.0 (run_of (Remove key) (outcome_of (Ok answer)) run) x.calls (stays.map ∙ run.2) (section run.1 run.3) run.4 refl key answer refl refl is_removed
+        has_removed same hash fixed small id run.1 knew run.0 (run_of x knew (Remove key) (outcome_of (Ok answer)) run) x.calls (stays.map ∙ run.2) (section run.1 run.3) run.4 refl key answer refl refl is_removed
         (λ word. refl) refl
 
     taken_so : (key : K) (answer : Answer) (word : ℕ) (pair : K × V) → removed_by answer ≡ Some word → shown_in knew.held (block_in word) ≡ Some (Pair pair.0 pair.1)
         → HasRun same hash (Remove key) (outcome_of (Ok answer)) x knew → (id : ℕ) → HasRemovedPair same hash fixed id knew key pair
     taken_so key answer word pair names shown run id =
-        has_removed_pair same hash fixed small id run.1 knew run.0 (run_of (Remove key) (outcome_of (Ok answer)) run) x.calls (stays.map ∙ run.2) (section run.1 run.3) run.4 refl key word pair.0 pair.1 refl
+        has_removed_pair same hash fixed small id run.1 knew run.0 (run_of x knew (Remove key) (outcome_of (Ok answer)) run) x.calls (stays.map ∙ run.2) (section run.1 run.3) run.4 refl key word pair.0 pair.1 refl
         (ap (λ (a : Answer). outcome_of {T = Node K V} (Ok a)) (removed_one answer word names)) shown
 
     refused_so : (wanted : Wanted K V) (fault : Fault) → plain wanted ≡ wanted → HasRun same hash wanted (outcome_of (Err fault)) x knew → (id : ℕ) → HasRefused same hash fixed id knew wanted fault
     refused_so wanted fault plainly run id =
-        has_refused same hash fixed small id run.1 knew run.0 (run_of wanted (outcome_of (Err fault)) run) x.calls (stays.map ∙ run.2) (section run.1 run.3) run.4 refl wanted plainly fault refl refl
+        has_refused same hash fixed small id run.1 knew run.0 (run_of x knew wanted (outcome_of (Err fault)) run) x.calls (stays.map ∙ run.2) (section run.1 run.3) run.4 refl wanted plainly fault refl refl
 
     counted_so : (count : ℕ) → HasRun same hash Count (outcome_of (Ok (said.Count count))) x knew → (id : ℕ) → HasCounted same hash fixed id knew count
     counted_so count run id =
-        has_counted same hash fixed small id run.1 knew run.0 (run_of Count (outcome_of (Ok (said.Count count))) run) x.calls (stays.map ∙ run.2) (section run.1 run.3) run.4 refl count refl refl
+        has_counted same hash fixed small id run.1 knew run.0 (run_of x knew Count (outcome_of (Ok (said.Count count))) run) x.calls (stays.map ∙ run.2) (section run.1 run.3) run.4 refl count refl refl
 
   -- A lookup: there was none, or the one that is lent.
   pub had_on : (key : K) (found : Option ℕ) (pair : Option (K × V)) (on : HasDoneOn (HasFound same hash key found) guard owner v w) → IsLentIf same hash guard owner on.knew found pair

@@ -59,7 +59,7 @@ module _ {K V S : Type 0} (guard owner : MapCaller K V S) (setting : Setting) (h
   its_map = (known owner.seat.view.own (setting, hasher) owns).0
 
   -- it is of this setting and this hasher
-  pub its_known : (its_map.setting, its_map.hasher) ≡ (setting, hasher)
+  pub its_known : ◌≡◌ {A = Setting × S} (its_map.setting, its_map.hasher) (setting, hasher)
   its_known = (known owner.seat.view.own (setting, hasher) owns).2
 
   abbrev pub on_both : View K V S

@@ -17,7 +17,7 @@ lends-done-requires g c =
       one = sym c.requires.guard ∙ k.caller.own;
       may =
           may_on k.caller m.owner m.setting m.hasher k.slot m.owns k.inside v _
-          (look_too x k.slot refl key c.new-lookup.result
+          (look_too g.K.PartialEq.eq g.S.Hashes.hash x k.slot refl key c.new-lookup.result
           (may_look g.S.Hashes.hash (alone_in x k.slot) m.setting m.hasher key c.new-lookup.result k.slot refl refl c.args.pass.now.seat.back.free
           (ap Some (its_known k.caller m.owner m.setting m.hasher k.slot m.owns k.inside v))
           (c.new-lookup.ensures ∙ ap (looking m.setting.root m.setting.mode) c.hash_by-hash.ensures)));
