@@ -116,9 +116,7 @@ impl<K: Eq + Hash + Drop, V: Drop, S: Hashes<K>> SharedCollector<K, V, S> {
         let caller = MapCaller::new(&self.home.blocks, &self.sleepers);
         CollectorPass::of(&caller, self.number())
     }
-}
 
-impl<K: Eq + Hash + Drop, V: Drop, S: Hashes<K>> SharedCollector<K, V, S> {
     /// Begins a builder of a map with this hasher: one that copies 64 places at a time as it grows, and counts its pairs for the processors of the collector.
     pub fn builder(&self, hasher: S) -> CollectorMapBuilder<'_, K, V, S>
         ensures collector { result.collector.now ≡ self.now }

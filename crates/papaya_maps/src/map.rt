@@ -1,20 +1,15 @@
 //! A map that shares its collector with others.
-ghost use Rattle.std.specs.Prelude.{◌≡◌, ◌≢◌, ◌^◌, Some, true, IfErr, IfOk, nat_lt};
+ghost use Rattle.std.specs.Prelude.{◌≡◌, ◌^◌, Some, true, nat_lt};
 ghost use Rattle.map_tables.specs.Chunks.{is_incremental};
 ghost use Rattle.papaya_maps.specs.Calls.{own_by};
-ghost use Rattle.papaya_maps.specs.Sources.{OneSource};
-ghost use Rattle.seize_words.specs.declared.fault.Fault.TheVariants.{ForeignGuard};
 ghost use Rattle.threads_callers.specs.Given.ViewsDeclared.view.SeatWork.TheVariants.{Nothing as NoWork};
 ghost use Rattle.seize_views.specs.declared.view.SlotView.TheVariants.{Rests};
 
 mod calls;
 mod keys;
 
-use crate::guard::CollectorGuard;
-use crate::session::CollectorSession;
 pub(crate) use calls::value_of;
 use map_tables::{Hashes, Setting};
-use seize_words::Fault;
 use std::hash::{Hash, RandomState};
 use threads_callers::MapCaller;
 use threads_owners::ends_own;
@@ -41,18 +36,6 @@ impl<'c, K: Eq + Hash + Drop, V: Drop, S: Hashes<K>> CollectorMap<'c, K, V, S> {
         ensures { result ≡ self.now.number }
     {
         self.number
-    }
-
-    /// Begins a session on the map, within the section of this guard. A guard of another collector is `Fault::ForeignGuard`.
-    pub fn session<'g>(
-        &'g self,
-        guard: &'g CollectorGuard<'c, K, V, S>,
-    ) -> Result<CollectorSession<'g, 'c, K, V, S>, Fault>
-        requires guard { OneSource (guard.now.number, guard.now.caller.seat.base) (self.now.number, self.now.owner.seat.base) }
-        ensures sides { IfOk result (λ session. (session.map.now ≡ self.now) × (session.guard.now ≡ guard.now)) }
-        ensures foreign { IfErr result (λ fault. (fault ≡ ForeignGuard) × (guard.now.number ≢ self.now.number)) }
-    {
-        CollectorSession::begin(self, guard)
     }
 }
 

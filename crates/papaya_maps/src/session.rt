@@ -26,37 +26,28 @@ pub struct CollectorSession<'g, 'c, K: Eq + Hash + Drop, V: Drop, S: Hashes<K> =
     ghost passes: { pass.seat.seat.base ≡ map.now.owner.seat.base },
 }
 
-impl<'g, 'c, K: Eq + Hash + Drop, V: Drop, S: Hashes<K>> CollectorSession<'g, 'c, K, V, S> {
-    /// Begins one on this map, under this guard. A guard of another collector is `Fault::ForeignGuard`.
-    pub(crate) fn begin(
-        map: &'g CollectorMap<'c, K, V, S>,
+impl<'c, K: Eq + Hash + Drop, V: Drop, S: Hashes<K>> CollectorMap<'c, K, V, S> {
+    /// Begins a session on the map, within the section of this guard. A guard of another collector is `Fault::ForeignGuard`.
+    pub fn session<'g>(
+        &'g self,
         guard: &'g CollectorGuard<'c, K, V, S>,
-    ) -> Result<Self, Fault>
-        requires guard { OneSource (guard.now.number, guard.now.caller.seat.base) (map.now.number, map.now.owner.seat.base) }
-        ensures sides { IfOk result (λ session. (session.map.now ≡ map.now) × (session.guard.now ≡ guard.now)) }
-        ensures foreign { IfErr result (λ fault. (fault ≡ ForeignGuard) × (guard.now.number ≢ map.now.number)) }
+    ) -> Result<CollectorSession<'g, 'c, K, V, S>, Fault>
+        requires guard { OneSource (guard.now.number, guard.now.caller.seat.base) (self.now.number, self.now.owner.seat.base) }
+        ensures sides { IfOk result (λ session. (session.map.now ≡ self.now) × (session.guard.now ≡ guard.now)) }
+        ensures foreign { IfErr result (λ fault. (fault ≡ ForeignGuard) × (guard.now.number ≢ self.now.number)) }
     {
-        if guard.number != map.number {
+        if guard.number != self.number {
             return Err(Fault::ForeignGuard);
         }
         Ok(CollectorSession {
-            map,
+            map: self,
             guard,
-            pass: CollectorPass::of(&map.owner, map.number),
+            pass: CollectorPass::of(&self.owner, self.number),
         })
     }
+}
 
-    /// Begins one more on the same map, under the same guard.
-    pub fn another(&self) -> Self
-        ensures sides { (result.map ≡ self.now.map) × (result.guard ≡ self.now.guard) }
-    {
-        CollectorSession {
-            map: self.map,
-            guard: self.guard,
-            pass: CollectorPass::of(&self.map.owner, self.map.number),
-        }
-    }
-
+impl<'g, 'c, K: Eq + Hash + Drop, V: Drop, S: Hashes<K>> CollectorSession<'g, 'c, K, V, S> {
     /// Looks a key up, and lends the value of its pair, if the map has one, whoever replaces or removes it meanwhile.
     pub fn get<R: Wait, Q: Form<K, S>>(&mut self, rt: &R, key: &Q) -> Option<&'g V>
         ensures sides { (self.new.map ≡ self.old.map) × (self.new.guard ≡ self.old.guard) }

@@ -48,13 +48,6 @@ fn element_of<'g, K>(found: Option<(&'g K, &'g ())>) -> Option<&'g K>
 }
 
 impl<'c, K: Eq + Hash + Drop, S: Hashes<K> + Drop> CollectorSet<'c, K, S> {
-    /// Returns the number of its collector.
-    pub fn number(&self) -> u64
-        ensures { result ≡ self.now.map.number }
-    {
-        self.map.number()
-    }
-
     /// Looks for the element that equals this key, and lends it, if the set has one, for as long as guard and set are borrowed, whoever removes it meanwhile. A guard or a pass of
     /// another collector is `Fault::ForeignGuard`, and nothing has changed.
     pub fn get<'g, R: Wait, Q: Form<K, S>>(
