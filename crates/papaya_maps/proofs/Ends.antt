@@ -1,6 +1,6 @@
 -- What the errands of calls come to: they end where they began, with nothing under way, and show the pairs that their answers name.
 use Rattle.std.specs.Prelude.{Option, Some, None, Result, Ok, Err, IfSome}
-use Rattle.std.proofs.Common.{◌≡◌, ℕ, Bool, inl, inr, refl}
+use Rattle.std.proofs.Common.{ℕ, Bool, inl, inr, refl}
 use Rattle.map_tables.specs.declared.node.Node.{Node}
 use Rattle.papaya_raw.specs.declared.machines.answer.KeyAnswer.TheVariants as answers
 use Rattle.papaya_raw.specs.declared.machines.progress.Answer.{Answer}

@@ -1,11 +1,13 @@
 //! Says of maps that share a collector what they were seen to do, a line each. Ends with an error where one line is not so.
 #![tactic(auto)]
 
+ghost use Rattle.std.specs.Prelude.{◌≤◌, ◌≢◌};
+
 use papaya_maps::{CollectorSession, Fault, IdSource, SharedCollector};
 use std::alloc::Global;
 use std::hash::{BuildHasherDefault, DefaultHasher};
 use std::io;
-use std::sync::Wait;
+use std::sync::{Arc, Wait};
 use std::sync::atomic::AtomicU64;
 use std::sync::atomic::Ordering::SeqCst;
 use std::thread::{self, Threads};
@@ -15,6 +17,8 @@ type Hashing = BuildHasherDefault<DefaultHasher>;
 type Shared = SharedCollector<u64, u64, Hashing>;
 
 type Own<'g, 'c> = CollectorSession<'g, 'c, u64, u64, Hashing>;
+
+type Held<'g, 'c> = CollectorSession<'g, 'c, u64, Counted, Hashing>;
 
 type Told<T> = Result<T, Fault>;
 
@@ -27,8 +31,18 @@ fn tells<R: Print>(rt: &R, what: &str, is_so: Told<bool>) -> io::Result<bool> {
     Ok(matches!(is_so, Ok(true)))
 }
 
+/// Makes a collector for so many maps.
+fn made(alloc: Global, roots: u64) -> Told<Shared>
+    requires some { 1 ≤ roots }
+    requires few { roots ≤ 65536 }
+{
+    let mut ids = IdSource::new();
+    Shared::new(alloc, &mut ids, 1, roots)
+}
+
 /// Tells whether one guard serves two maps of its collector, and what it was lent of the one is still there once the other one has ended.
-fn one_guard<R: Wait>(rt: &R, shared: &Shared) -> Told<bool> {
+fn one_guard<R: Wait>(rt: &R, alloc: Global) -> Told<bool> {
+    let shared = made(alloc, 2)?;
     let a = shared.builder(Hashing::default()).build()?;
     let b = shared.builder(Hashing::default()).build()?;
     let guard = shared.guard()?;
@@ -44,42 +58,62 @@ fn one_guard<R: Wait>(rt: &R, shared: &Shared) -> Told<bool> {
     Ok(none && other && found == [Some(10), Some(20), Some(10), Some(11)])
 }
 
-/// A value that is counted as it is dropped.
-struct Counted<'d>(&'d AtomicU64);
+/// How many values were dropped.
+type Count = Arc<AtomicU64>;
 
-impl<'d> Drop for Counted<'d> {
+/// A value that is counted as it is dropped.
+struct Counted(Count);
+
+impl Drop for Counted {
     fn drop(self) {
         let Counted(count) = self;
-        let _ = count.fetch_add(1, SeqCst);
+        count.fetch_add(1, SeqCst);
     }
 }
 
-/// Tells how many values of the one map, and of the other one, were dropped once the other one has ended; and of the one once all is reclaimed.
-fn dropped<R: Wait>(rt: &R, alloc: Global) -> Told<bool> {
-    let (one, other) = (AtomicU64::new(0), AtomicU64::new(0));
-    let mut ids = IdSource::new();
-    let mut shared: SharedCollector<u64, Counted<'_>, Hashing> = SharedCollector::new(
-        alloc, &mut ids, 1, 2,
-    )?;
+/// Stores so many keys, each with a value that this counts as it is dropped: whether that could be.
+fn fills<R: Wait>(rt: &R, session: &mut Held<'_, '_>, keys: u64, count: &Count) -> Told<bool> {
+    for key in 0..keys {
+        let Ok(counts) = Arc::try_clone(count) else {
+            return Ok(false);
+        };
+        let _ = session.insert(rt, key, Counted(counts))?;
+    }
+    Ok(true)
+}
+
+/// Fills two maps, of which one ends, and then the other one: whether just all values of the first were dropped by then.
+fn ends<R: Wait>(
+    rt: &R,
+    shared: &SharedCollector<u64, Counted, Hashing>,
+    one: &Count,
+    other: &Count,
+) -> Told<bool> {
     let stays = shared.builder(Hashing::default()).build()?;
-    let ends = shared.builder(Hashing::default()).build()?;
+    let gone = shared.builder(Hashing::default()).build()?;
     let guard = shared.guard()?;
     let mut here = stays.session(&guard)?;
-    let mut there = ends.session(&guard)?;
-    for key in 0..3 {
-        let _ = here.insert(rt, key, Counted(&one))?;
-        let _ = there.insert(rt, key, Counted(&other))?;
-    }
-    let _ = here.insert(rt, 0, Counted(&one))?;
+    let mut there = gone.session(&guard)?;
+    let filled = fills(rt, &mut here, 3, one)? && fills(rt, &mut there, 3, other)?;
+    let replaced = fills(rt, &mut here, 1, one)?;
     drop(there);
-    drop(ends);
-    let first = [one.load(SeqCst), other.load(SeqCst)];
-    drop(here);
-    drop(guard);
-    drop(stays);
+    drop(gone);
+    Ok(filled && replaced && one.load(SeqCst) == 0 && other.load(SeqCst) == 3)
+}
+
+/// Tells whether a map that ends drops its values, and no other one's; and whether those of both were dropped once all is reclaimed.
+fn dropped<R: Wait>(rt: &R, alloc: Global) -> Told<bool> {
+    let Ok(one) = Arc::new(alloc, AtomicU64::new(0)) else {
+        return Err(Fault::Memory);
+    };
+    let Ok(other) = Arc::new(alloc, AtomicU64::new(0)) else {
+        return Err(Fault::Memory);
+    };
+    let mut ids = IdSource::new();
+    let mut shared = SharedCollector::new(alloc, &mut ids, 1, 2)?;
+    let first = ends(rt, &shared, &one, &other)?;
     shared.reclaim_all();
-    let then = [one.load(SeqCst), other.load(SeqCst)];
-    Ok(first == [0, 3] && then == [4, 3])
+    Ok(first && one.load(SeqCst) == 4 && other.load(SeqCst) == 3)
 }
 
 /// Tells whether two sets of one collector have elements of their own, and what was lent of the one is still there once the other one has ended.
@@ -157,7 +191,9 @@ fn go_on<R: Threads + Wait + Sync>(rt: &R, shared: &Shared) -> Told<bool> {
 }
 
 /// Tells whether a guard and a pass of another collector are refused.
-fn foreign<R: Wait>(rt: &R, shared: &Shared, other: &Shared) -> Told<bool> {
+fn refuses<'c, R: Wait>(rt: &R, shared: &'c Shared, other: &'c Shared) -> Told<bool>
+    requires apart { other.now.collector.number ≢ shared.now.collector.number }
+{
     let map = shared.builder(Hashing::default()).build()?;
     let (guard, far) = (shared.guard()?, other.guard()?);
     let (mut pass, mut strange) = (shared.pass(), other.pass());
@@ -170,6 +206,14 @@ fn foreign<R: Wait>(rt: &R, shared: &Shared, other: &Shared) -> Told<bool> {
             && matches!(by_guard, Err(Fault::ForeignGuard))
             && matches!(stored, Err(refused) if refused.key == 1 && refused.value == 2),
     )
+}
+
+/// Tells whether they are.
+fn foreign<R: Wait>(rt: &R, alloc: Global) -> Told<bool> {
+    let mut ids = IdSource::new();
+    let shared = Shared::new(alloc, &mut ids, 1, 1)?;
+    let other = Shared::new(alloc, &mut ids, 1, 1)?;
+    refuses(rt, &shared, &other)
 }
 
 /// Leaves a map of this collector that grows, as its first table has 32 places, and from which keys were removed that had been copied by then.
@@ -185,8 +229,8 @@ fn leaves<R: Wait>(rt: &R, shared: &Shared) -> Told<()> {
 }
 
 /// Tells whether the only root is in use as long as a map stands there, and until what waits of it is reclaimed.
-fn roots<R: Wait>(rt: &R, shared: Shared) -> Told<bool> {
-    let mut shared = shared;
+fn roots<R: Wait>(rt: &R, alloc: Global) -> Told<bool> {
+    let mut shared = made(alloc, 1)?;
     let map = shared.builder(Hashing::default()).build()?;
     let none = shared.builder(Hashing::default()).build();
     let used = matches!(none, Err(Fault::RootsUsedUp));
@@ -202,14 +246,17 @@ fn roots<R: Wait>(rt: &R, shared: Shared) -> Told<bool> {
     Ok(used && again && waits && free)
 }
 
+/// Two threads.
+fn threads<R: Threads + Wait + Sync>(rt: &R, alloc: Global) -> Told<bool> {
+    let shared = made(alloc, 2)?;
+    go_on(rt, &shared)
+}
+
 /// All of it.
 fn all<R: Threads + Wait + Sync + Print>(rt: &R, alloc: Global) -> io::Result<bool> {
-    let mut ids = IdSource::new();
-    let shared = Shared::new(alloc, &mut ids, 1, 4)?;
-    let other = Shared::new(alloc, &mut ids, 1, 1)?;
-    let so = one_guard(rt, &shared);
+    let so = one_guard(rt, alloc);
     let mut is_so = tells(rt, "one guard serves two maps, and one ends meanwhile", so)?;
-    let so = go_on(rt, &shared);
+    let so = threads(rt, alloc);
     is_so = tells(rt, "a map goes on while another one ends on a thread", so)? && is_so;
     let so = dropped(rt, alloc);
     is_so = tells(
@@ -219,13 +266,13 @@ fn all<R: Threads + Wait + Sync + Print>(rt: &R, alloc: Global) -> io::Result<bo
     )? && is_so;
     let so = sets(rt, alloc);
     is_so = tells(rt, "sets of one collector have elements of their own", so)? && is_so;
-    let so = foreign(rt, &shared, &other);
+    let so = foreign(rt, alloc);
     is_so = tells(
         rt,
         "a guard and a pass of another collector are refused",
         so,
     )? && is_so;
-    let so = roots(rt, other);
+    let so = roots(rt, alloc);
     is_so = tells(
         rt,
         "a root is in use until what waits there is reclaimed",
