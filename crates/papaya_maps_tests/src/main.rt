@@ -7,9 +7,9 @@ use papaya_maps::{CollectorSession, Fault, IdSource, SharedCollector};
 use std::alloc::Global;
 use std::hash::{BuildHasherDefault, DefaultHasher};
 use std::io;
-use std::sync::{Arc, Wait};
 use std::sync::atomic::AtomicU64;
 use std::sync::atomic::Ordering::SeqCst;
+use std::sync::{Arc, Wait};
 use std::thread::{self, Threads};
 
 type Hashing = BuildHasherDefault<DefaultHasher>;
@@ -172,7 +172,7 @@ fn lives<R: Wait>(rt: &R, shared: &Shared) -> Told<u64> {
     Ok(finds(rt, &mut session, 0, 200))
 }
 
-/// Tells whether one map goes on while another one comes and ends on another thread.
+/// Tells whether one map goes on while another one comes and ends on another thread. It would be so, too, if one of them waited for the other one.
 fn go_on<R: Threads + Wait + Sync>(rt: &R, shared: &Shared) -> Told<bool> {
     let map = shared.builder(Hashing::default()).copies(1).build()?;
     let guard = shared.guard()?;
