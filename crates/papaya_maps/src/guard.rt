@@ -7,6 +7,7 @@ ghost use Rattle.seize_views.specs.declared.view.SlotView.TheVariants.{Inside, O
 use map_tables::Hashes;
 use seize_words::Fault;
 use std::hash::{Hash, RandomState};
+use std::marker::PhantomData;
 use threads_callers::MapCaller;
 
 /// A slot of a collector, with no section open. It may be sent to a thread.
@@ -70,6 +71,7 @@ impl<'c, K: Eq + Hash + Drop, V: Drop, S: Hashes<K>> CollectorRegistration<'c, K
             slot,
             batch_size,
             number,
+            thread: PhantomData,
         }
     }
 }
@@ -88,13 +90,14 @@ impl<'c, K: Eq + Hash + Drop, V: Drop, S: Hashes<K>> Drop for CollectorRegistrat
     }
 }
 
-/// A slot of a collector, within a section. What is looked up under it in any map of the collector is lent for as long as the guard and that map are borrowed. As long as it neither
-/// ends nor is refreshed, nothing that was removed or replaced meanwhile is reclaimed, whoever did it.
+/// A slot of a collector, within a section, on whose thread it stays: so no two threads retire by one slot. What is looked up under it in any map of the collector is lent for as long
+/// as the guard and that map are borrowed. As long as it neither ends nor is refreshed, nothing that was removed or replaced meanwhile is reclaimed, whoever did it.
 pub struct CollectorGuard<'c, K: Eq + Hash + Drop, V: Drop, S: Hashes<K> = RandomState> {
     pub(crate) caller: MapCaller<'c, K, V, S>,
     pub(crate) slot: u64,
     batch_size: u64,
     pub(crate) number: u64,
+    thread: PhantomData<*const V>,
     pub(crate) ghost inside: { caller.seat.view.slot ≡ Inside slot Nothing },
     ghost sized: { caller.blocks.now.words.fixed.batch_size ≡ batch_size },
     ghost free: { caller.seat.view.work ≡ NoWork },
@@ -128,6 +131,7 @@ impl<'c, K: Eq + Hash + Drop, V: Drop, S: Hashes<K>> CollectorGuard<'c, K, V, S>
             slot,
             batch_size,
             number,
+            thread: _,
         } = self;
         let mut caller = caller;
         caller.leave(batch_size, slot);

@@ -15,7 +15,7 @@ use std::hash::{Hash, RandomState};
 use std::sync::Wait;
 use threads_callers::{Attempt, Form};
 
-/// A session on a map that shares its collector, within the section of a guard. It may be sent to a thread. What it has found is lent for as long as guard and map are borrowed, whatever
+/// A session on a map that shares its collector, within the section of a guard, on whose thread it stays. What it has found is lent for as long as guard and map are borrowed, whatever
 /// it does then.
 #[derive(Drop)]
 pub struct CollectorSession<'g, 'c, K: Eq + Hash + Drop, V: Drop, S: Hashes<K> = RandomState> {

@@ -18,8 +18,8 @@ type Cache<'m> = Session<'m, u64, u64, Hashing>;
 
 /// The square of a number, which is worked out where the cache has none, and whether that was a hit.
 fn square<R: Wait>(rt: &R, cache: &mut Cache<'_>, number: u64) -> Result<(u64, bool), Fault> {
-    let (square, hit) = cache.try_insert_with(rt, number, || number.wrapping_mul(number))?;
-    Ok((*cache.value(square), hit))
+    let (square, stored) = cache.try_insert_with(rt, number, || number.wrapping_mul(number))?;
+    Ok((*cache.value(square), !stored))
 }
 
 /// Asks for each number, and lets go what is long past. Answers how many squares were right, and how many were hits.
