@@ -1,6 +1,6 @@
 #!/usr/bin/env python3
 """Shows that what is lent of a map that shares its collector can't be read once its guard, or the map, has ended, that a session ends before its map, and guards and maps before the
-collector; and that the end of another map takes nothing away: such programs do not compile, or do.
+collector; that the collector, guards and sessions stay on their thread; and that the end of another map takes nothing away: such programs do not compile, or do.
 
     compile-fail/late_maps.py   compiles a program of functions that read early or late, and exits 1 if one that is right is refused, or one that is wrong is not
 
@@ -16,10 +16,12 @@ NAME, BELOW = "late_maps", "papaya_maps"
 HEAD = """//! Maps that share a collector, as they may be used, and as they may not.
 #![tactic(auto)]
 
-use papaya_maps::{CollectorGuard, CollectorMap, CollectorPass, IdSource, SharedCollector};
+use papaya_maps::{CollectorGuard, CollectorMap, CollectorPass, CollectorRegistration, CollectorSession, IdSource, SharedCollector};
 use std::hash::{BuildHasherDefault, DefaultHasher};
 use std::io;
 use std::sync::Wait;
+use std::thread;
+use std::thread::Threads;
 
 type Hashing = BuildHasherDefault<DefaultHasher>;
 
@@ -30,6 +32,10 @@ type Map<'c> = CollectorMap<'c, u64, u64, Hashing>;
 type Guard<'c> = CollectorGuard<'c, u64, u64, Hashing>;
 
 type Pass = CollectorPass<u64, u64, Hashing>;
+
+type Slot<'c> = CollectorRegistration<'c, u64, u64, Hashing>;
+
+type Own<'g, 'c> = CollectorSession<'g, 'c, u64, u64, Hashing>;
 """
 # what ends the lending of a value that was found in a map
 ENDS = [
@@ -45,6 +51,18 @@ STAYS = [
     ("look", "let _ = map.get(rt, &2, &guard, &mut pass);"),
     ("remove", "let _ = map.remove(rt, &1, &guard, &mut pass);"),
 ]
+# who is sent to another thread, or shared with it, by its type and what is done there; and whether that may be
+SENT = [
+    ("pass_sent", "pass: Pass", "move || drop(pass)", True),
+    ("slot_sent", "slot: Slot<'_>", "move || drop(slot)", True),
+    ("map_sent", "map: Map<'_>", "move || drop(map)", True),
+    ("map_shared", "map: &Map<'_>", "|| map.number()", True),
+    ("collector_shared", "shared: &Shared", "|| shared.number()", False),
+    ("guard_sent", "guard: Guard<'_>", "move || drop(guard)", False),
+    ("guard_shared", "guard: &Guard<'_>", "|| guard.number()", False),
+    ("session_sent", "session: Own<'_, '_>", "move || drop(session)", False),
+]
+REFUSED = {"unsatisfied-bound"}
 LATE = {"borrow-e0502", "borrow-e0505", "borrow-e0499"}
 TAKES = "<R: Wait>(rt: &R, map: Map<'_>, other: Map<'_>, guard: Guard<'_>, pass: Pass) -> bool"
 MAIN = """
@@ -79,8 +97,18 @@ def program():
     return text + MAIN, early, late
 
 
+def sending():
+    """The program of threads, and the lines where they begin, by the names of their functions: those that may first."""
+    text, right, wrong = HEAD, {}, {}
+    for of, takes, does, may in SENT:
+        text += f"\nfn {of}<R: Threads + Sync>(rt: &R, {takes}) {{\n    thread::join(rt, {does}, || ());\n}}\n"
+        (right if may else wrong)[of] = text[: text.rindex("thread::join")].count("\n") + 1
+    return text + MAIN, right, wrong
+
+
 def main():
-    print(f"late maps: {shown(NAME, BELOW, *program(), LATE)} reads refused")
+    late = shown(NAME, BELOW, *program(), LATE)
+    print(f"late maps: {late} reads refused, {shown(NAME, BELOW, *sending(), REFUSED)} ways to another thread")
 
 
 if __name__ == "__main__":

@@ -25,7 +25,7 @@ const FIRST: u64 = 64;
 /// For how many processors a map counts its pairs at most.
 const MOST_PROCESSORS: u64 = 1 << 63;
 
-/// A collector that maps share. Guards and passes are its own, and serve all its maps. The hashers of its maps are of one type, each its own.
+/// A collector that maps share. It stays on its thread; its maps may be lent to others, and its registrations and passes sent, which serve all its maps. The hashers of these are of one type.
 #[derive(Drop)]
 pub struct SharedCollector<K: Eq + Hash + Drop, V: Drop, S: Hashes<K> = RandomState> {
     pub(crate) collector: Collector,

@@ -3,7 +3,9 @@
 
 ghost use Rattle.std.specs.Prelude.{◌≤◌, ◌≢◌};
 
-use papaya_maps::{CollectorMap, CollectorSession, Fault, IdSource, SharedCollector};
+use papaya_maps::{
+    CollectorGuard, CollectorMap, CollectorSession, Fault, IdSource, SharedCollector,
+};
 use std::alloc::Global;
 use std::hash::{BuildHasherDefault, DefaultHasher};
 use std::io;
@@ -17,6 +19,8 @@ type Hashing = BuildHasherDefault<DefaultHasher>;
 type Shared = SharedCollector<u64, u64, Hashing>;
 
 type Map<'c> = CollectorMap<'c, u64, u64, Hashing>;
+
+type Guard<'c> = CollectorGuard<'c, u64, u64, Hashing>;
 
 type Own<'g, 'c> = CollectorSession<'g, 'c, u64, u64, Hashing>;
 
@@ -165,10 +169,9 @@ fn finds<R: Wait>(rt: &R, session: &mut Own<'_, '_>, first: u64, last: u64) -> u
     count
 }
 
-/// Stores so many keys in this map, under a guard of its own, and counts which are found.
-fn uses<'c, R: Wait>(rt: &R, shared: &'c Shared, map: &Map<'c>, keys: u64) -> Told<u64> {
-    let guard = shared.guard()?;
-    let mut session = map.session(&guard)?;
+/// Stores so many keys in this map, under this guard, and counts which are found.
+fn uses<'c, R: Wait>(rt: &R, guard: &Guard<'c>, map: &Map<'c>, keys: u64) -> Told<u64> {
+    let mut session = map.session(guard)?;
     stores(rt, &mut session, 0, keys)?;
     Ok(finds(rt, &mut session, 0, keys))
 }
@@ -176,14 +179,23 @@ fn uses<'c, R: Wait>(rt: &R, shared: &'c Shared, map: &Map<'c>, keys: u64) -> To
 /// Makes a map, fills it, and ends it.
 fn lives<R: Wait>(rt: &R, shared: &Shared) -> Told<u64> {
     let map = shared.builder(Hashing::default()).copies(1).build()?;
-    uses(rt, shared, &map, 200)
+    let guard = shared.guard()?;
+    uses(rt, &guard, &map, 200)
 }
 
-/// Tells whether one map goes on while another one comes and ends on another thread. It would be so, too, if one of them waited for the other one.
+/// Tells whether one map goes on, on another thread, while another one comes and ends here. It would be so, too, if one of them waited for the other one.
 fn go_on<R: Threads + Wait + Sync>(rt: &R, shared: &Shared) -> Told<bool> {
     let map = shared.builder(Hashing::default()).copies(1).build()?;
-    let (here, there) = thread::join(rt, || uses(rt, shared, &map, 300), || lives(rt, shared));
-    Ok(here? == 300 && there? == 200)
+    let slot = shared.register()?;
+    let (there, here) = thread::join(
+        rt,
+        || {
+            let guard = slot.enter();
+            uses(rt, &guard, &map, 300)
+        },
+        || lives(rt, shared),
+    );
+    Ok(there? == 300 && here? == 200)
 }
 
 /// Tells whether a guard and a pass of another collector are refused.
