@@ -1,7 +1,7 @@
 //! Says of maps that share a collector what they were seen to do, a line each. Ends with an error where one line is not so.
 #![tactic(auto)]
 
-ghost use Rattle.std.specs.Prelude.{◌≤◌, ◌≢◌};
+ghost use Rattle.std.specs.Prelude.{◌≡◌, ◌≤◌, ◌≢◌};
 
 use papaya_maps::{
     CollectorGuard, CollectorMap, CollectorSession, Fault, IdSource, SharedCollector,
@@ -170,7 +170,9 @@ fn finds<R: Wait>(rt: &R, session: &mut Own<'_, '_>, first: u64, last: u64) -> u
 }
 
 /// Stores so many keys in this map, under this guard, and counts which are found.
-fn uses<'c, R: Wait>(rt: &R, guard: &Guard<'c>, map: &Map<'c>, keys: u64) -> Told<u64> {
+fn uses<'c, R: Wait>(rt: &R, guard: &Guard<'c>, map: &Map<'c>, keys: u64) -> Told<u64>
+    requires one { guard.now.caller.blocks.now ≡ map.now.owner.blocks.now }
+{
     let mut session = map.session(guard)?;
     stores(rt, &mut session, 0, keys)?;
     Ok(finds(rt, &mut session, 0, keys))
@@ -189,7 +191,9 @@ fn go_on<R: Threads + Wait + Sync>(rt: &R, shared: &Shared) -> Told<bool> {
     let slot = shared.register()?;
     let (there, here) = thread::join(
         rt,
-        || {
+        || -> Told<u64>
+            requires one { slot.caller.blocks.now ≡ map.owner.blocks.now }
+        {
             let guard = slot.enter();
             uses(rt, &guard, &map, 300)
         },
